@@ -1,1 +1,6 @@
+pub mod Bits
+pub mod Decimal
+pub mod Op
+pub mod Scalar
 pub mod Words
+pub mod Shape

@@ -1,11 +1,12 @@
-ghost use Rattle.std.specs.Prelude.{◌≡◌, ℕ, List, length, IfOk, IsTrue, ◌↔◌};
+ghost use Rattle.std.specs.Prelude.{◌≡◌, ℕ, List, IfOk};
+ghost use Rattle.std.specs.Str.{bytes_eq};
 
 use crate::Memory;
 use std::alloc::Global;
 use std::marker::Model;
 
 /// A text: any list of bytes, seen by contracts as that list. It need not be UTF-8.
-#[derive(Drop)]
+#[derive(Debug, Drop)]
 pub struct Text {
     bytes: Vec<u8>,
 }
@@ -48,7 +49,7 @@ impl Text {
 
     /// Whether the text is exactly these bytes.
     pub fn is(&self, bytes: &[u8]) -> bool
-        ensures { IsTrue result ↔ (self.now ≡ bytes.now) }
+        ensures { result ≡ bytes_eq self.now bytes.now }
     {
         self.bytes.as_slice() == bytes
     }

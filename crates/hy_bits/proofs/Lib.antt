@@ -1,0 +1,5 @@
+pub mod BitLaws
+mod BitSteps
+pub mod Decimals
+pub mod ShapeLaws
+pub mod WordLaws

@@ -1,0 +1,6 @@
+pub mod Sums
+pub mod Terms
+pub mod Inputs
+pub mod Runs
+pub mod Prints
+pub mod Requests
