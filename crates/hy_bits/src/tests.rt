@@ -77,8 +77,18 @@ fn selections_and_truncations_are_those_of_c(rt: HostRuntime) {
     assert_eq!(rt; Op::Sel.value(w8, bit, 0, 0x95, 0x6f), 0x6f);
     assert_eq!(rt; Op::Sel.value(bit, bit, 1, 0, 1), 0);
     assert_eq!(rt; Op::Sel.value(w64, bit, 0, 0, u64::MAX), u64::MAX);
-    for (to, expected) in [(bit, 1), (w8, 0x95), (Width::W16, 0x7c95), (Width::W32, 0x7f4a7c95), (w64, 0x9e3779b97f4a7c95)] {
-        assert_eq!(rt; Op::Trunc.value(to, w64, 0x9e3779b97f4a7c95, 0, 0), expected, "{to:?}");
+    for (to, expected) in [
+        (bit, 1),
+        (w8, 0x95),
+        (Width::W16, 0x7c95),
+        (Width::W32, 0x7f4a7c95),
+        (w64, 0x9e3779b97f4a7c95),
+    ] {
+        assert_eq!(rt;
+            Op::Trunc.value(to, w64, 0x9e3779b97f4a7c95, 0, 0),
+            expected,
+            "{to:?}"
+        );
     }
 }
 

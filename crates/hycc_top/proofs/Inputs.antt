@@ -1,5 +1,5 @@
 -- The lines of inputs, taken apart.
-use Rattle.std.proofs.Common.{◌≡◌, ◌≢◌, ℕ, ◌<◌, ◌^◌, ◌⊎◌, inl, inr, List, [], ◌∷◌, ◌++◌, Option, None, Some, MatchOption, Bor, true, false, eqb, ◌+◌, ◌-◌, take, drop, length, refl, ap, sym, ◌∙◌, arith, decimal, append_assoc, reverse}
+use Rattle.std.proofs.Common.{◌≡◌, ◌≢◌, ℕ, ◌<◌, ◌^◌, inl, inr, List, [], ◌∷◌, ◌++◌, Option, None, Some, MatchOption, Bor, true, false, eqb, ◌+◌, ◌-◌, take, drop, length, ap, sym, ◌∙◌, arith, decimal, append_assoc, reverse}
 use Rattle.std.proofs.lemmas.List.{append_cancel_left, append_cancel_right, reverse-append}
 use Rattle.std.proofs.lemmas.Bool.Decides.{Decides-eqb}
 use Rattle.std.proofs.lemmas.Slice.Eq.{strip_prefix_is, strip_suffix_is}
@@ -38,12 +38,12 @@ last_of xs ys a b is = let turned : a ∷ reverse xs ≡ b ∷ reverse ys = sym 
 pub line_of_input : (name bytes line : List ℕ) (number : ℕ) → IsWithoutNewline bytes line → IsInput name bytes number → line ≡ input_text name number
 line_of_input name bytes line number stripped input =
     elim stripped [
-      inl newline ↦ elim input.text [
-        inl bare ↦ let ends : 10 ≡ 125 = last_of line (123 ∷ 34 ∷ (name ++ 34 ∷ 58 ∷ decimal number)) 10 125 (sym newline ∙ (bare ∙ ends_with_brace name (decimal number))) in absurd (omega (arith, ends))
+      | inl newline ↦ elim input.text [
+        | inl bare ↦ let ends : 10 ≡ 125 = last_of line (123 ∷ 34 ∷ (name ++ 34 ∷ 58 ∷ decimal number)) 10 125 (sym newline ∙ (bare ∙ ends_with_brace name (decimal number))) in absurd (omega (arith, ends))
         | inr ended ↦ append_cancel_right line (input_text name number) (10 ∷ []) (sym newline ∙ ended)
       ]
       | inr plain ↦ elim input.text [
-        inl bare ↦ sym plain.0 ∙ bare
+        | inl bare ↦ sym plain.0 ∙ bare
         | inr ended ↦ absurd (plain.1 (input_text name number) ended)
       ]
     ]

@@ -1,13 +1,12 @@
 -- From what the texts say to what the files hold, and what a run without faults must end with.
-use Rattle.std.proofs.Common.{◌≡◌, ◌≢◌, ℕ, ◌+◌, ◌-◌, ◌^◌, ◌<◌, ◌≤◌, ◌⊎◌, inl, inr, List, length, take, Option, None, Some, MatchOption, refl, ap, sym, ◌∙◌, subst, arith}
+use Rattle.std.proofs.Common.{◌≡◌, ◌≢◌, ℕ, ◌+◌, ◌^◌, ◌≤◌, ◌⊎◌, inl, inr, List, length, take, Option, None, Some, MatchOption, refl, ap, sym, ◌∙◌, subst, arith}
 use Rattle.std.proofs.lemmas.Bool.Decides.{eqb_tells}
 use Rattle.std.proofs.lemmas.List.{take_all, length-take}
 use Rattle.hy_io.specs.Outside.{Store, Rose, Gives}
 use Rattle.hycc_top.specs.declared.outcome.Outcome.{Outcome}
 use Rattle.hycc_top.specs.declared.outcome.Outcome.TheVariants.{Sum as Opened, SourceForm, AForm, BForm}
-use Rattle.hycc_top.specs.Source.{Summed, source_of, sum_in_c}
-use Rattle.hycc_top.specs.Input.{IsInput}
-use Rattle.hycc_top.specs.Lines.{run_line, form_line}
+use Rattle.hycc_top.specs.Source.{Summed, source_of}
+use Rattle.hycc_top.specs.Lines.{run_line}
 use Rattle.hycc_top.specs.Endings.{SourceSays, InputSays, Holds, IsJob, IsRun, IsSourceFault, IsInputFault, IsEnding, Calm, HasJob}
 use Rattle.hycc_top.specs.Inner.{IsOutcome, IsLineOf}
 
@@ -113,7 +112,7 @@ pub run_of_job : (store : Option Store) (before after : List ℕ → ℕ) (sourc
 run_of_job None before after source a b code line job calm ending = absurd job
 run_of_job (Some store) before after source a b code line (said, x, y, job) calm ending =
     elim ending.known [
-      inl is ↦ is
+      | inl is ↦ is
       | inr (inl is) ↦ let fault = ending.file_fault is in absurd (not_risen (before fault.0) (after fault.0) (calm fault.0) fault.2)
       | inr (inr (inl is)) ↦ absurd ((ending.source_fault is).0 said job.source_says)
       | inr (inr (inr is)) ↦ absurd (no_input_fault store source a b said x y line job (ending.input_fault is))
@@ -123,6 +122,6 @@ run_of_job (Some store) before after source a b code line (said, x, y, job) calm
 pub status_of_job : (code line_code before after : ℕ) → (code ≢ 9 → code ≡ line_code) → (code ≡ 9 → Rose before after) → Calm before after → line_code ≡ 0 → (code ≡ 0) ⊎ (code ≡ 10)
 status_of_job code line_code before after written cut calm is =
     elim (eqb_tells code 9) [
-      inl nine ↦ absurd (not_risen before after calm (cut nine.1))
+      | inl nine ↦ absurd (not_risen before after calm (cut nine.1))
       | inr other ↦ inl (written other.1 ∙ is)
     ]

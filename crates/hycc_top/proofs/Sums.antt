@@ -1,5 +1,5 @@
 -- Sums of shares.
-use Rattle.std.proofs.Common.{◌≡◌, ℕ, ◌+◌, ◌%◌, ◌^◌}
+use Rattle.std.proofs.Common.{ℕ, ◌+◌, ◌%◌, ◌^◌}
 use Rattle.share_arith.proofs.Laws.{sum_opens}
 use Rattle.hycc_top.specs.Shares.{Stand}
 

@@ -1,5 +1,5 @@
 -- What each status of a run means, with the line that goes with it.
-use Rattle.std.specs.Prelude.{◌≡◌, ℕ, ◌-◌, ◌^◌, ◌<◌, ◌≤◌, ◌⊎◌, List, length, Option, None, Some, ⊤}
+use Rattle.std.specs.Prelude.{◌≡◌, ℕ, ◌-◌, ◌^◌, ◌<◌, ◌≤◌, ◌⊎◌, List, length, Option, None, Some}
 use Rattle.hy_io.specs.Outside.{Store, Rose}
 use Rattle.hycc_top.specs.Source.{Summed, source_of, sum_in_c}
 use Rattle.hycc_top.specs.Input.{IsInput}
@@ -48,7 +48,7 @@ IsInputFault None source a b line = (line ≡ form_line a) ⊎ (line ≡ form_li
 IsInputFault (Some store) source a b line =
     (said : Summed) × Holds store source (SourceSays said)
     × ((((x : ℕ) → Holds store a (InputSays said.a x) → ⊥) × (line ≡ form_line a))
-      ⊎ ((x : ℕ) × Holds store a (InputSays said.a x) × ((y : ℕ) → Holds store b (InputSays said.b y) → ⊥) × (line ≡ form_line b)))
+    ⊎ ((x : ℕ) × Holds store a (InputSays said.a x) × ((y : ℕ) → Holds store b (InputSays said.b y) → ⊥) × (line ≡ form_line b)))
 
 -- the status and the line of a run that had memory, of a store and its counts of failed reads before and after
 pub record IsEnding (store : Option Store) (before after : List ℕ → ℕ) (source a b : List ℕ) (code : ℕ) (line : List ℕ) : Type 0 where

@@ -1,7 +1,7 @@
 -- The sources that are run: a function that returns the sum of its two parameters and of literals, each any number of
 -- times (C11 6.9.1, cut down):
 --   unsigned mpc_main(unsigned INPUT_A.., unsigned INPUT_B..) { return T + T + .. ; }
-use Rattle.std.specs.Prelude.{ℕ, ◌+◌, ◌%◌, ◌^◌, Bool, false, ◌&&◌, List, [], ◌∷◌, sum_by, Option, None, Some, Result, Ok, Err, if◌then◌else◌, nat_eq, nat_lt, codes}
+use Rattle.std.specs.Prelude.{ℕ, ◌%◌, ◌^◌, Bool, false, ◌&&◌, List, [], ◌∷◌, sum_by, Option, None, Some, Result, Ok, Err, if◌then◌else◌, nat_eq, nat_lt, codes}
 use Rattle.std.specs.List.{starts_with}
 use Rattle.std.specs.Option.{option_and_then, option_map}
 use Rattle.std.specs.Str.{bytes_eq}
@@ -65,8 +65,8 @@ terms_of a b [] = None
 terms_of a b (token ∷ []) = None
 terms_of a b (token ∷ next ∷ rest) =
     if bytes_eq next.text (codes "+")
-      then option_and_then (λ term. option_map (λ terms. term ∷ terms) (terms_of a b rest)) (term_of a b token)
-      else if bytes_eq next.text (codes ";") && closes rest then option_map (λ term. term ∷ []) (term_of a b token) else None
+    then option_and_then (λ term. option_map (λ terms. term ∷ terms) (terms_of a b rest)) (term_of a b token)
+    else if bytes_eq next.text (codes ";") && closes rest then option_map (λ term. term ∷ []) (term_of a b token) else None
 
 -- the names of the parameters, and the tokens behind `return`
 pub record Head : Type 0 where
@@ -77,8 +77,8 @@ pub record Head : Type 0 where
 abbrev pub head_of : List Token → Option Head
 head_of tokens =
     option_and_then (λ first.
-      option_and_then (λ second. option_map (λ body. record { a = first.0; b = second.0; body = body }) (body_opening second.1))
-      (option_and_then (parameter (codes "INPUT_B")) (expect (codes ",") first.1)))
+    option_and_then (λ second. option_map (λ body. record { a = first.0; b = second.0; body = body }) (body_opening second.1))
+    (option_and_then (parameter (codes "INPUT_B")) (expect (codes ",") first.1)))
     (option_and_then (parameter (codes "INPUT_A")) (opening tokens))
 
 -- what the tokens of a whole source say

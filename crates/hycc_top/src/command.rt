@@ -18,7 +18,12 @@ use rand_core::SeedableRng;
 use std::alloc::Global;
 
 /// Does what the words ask: the program's name, which may be any word, and `exec SRC A B --seed HEX64`.
-pub fn hycc<F: Files, S: Sink>(alloc: Global, words: &[String], files: &mut F, sink: &mut S) -> Status
+pub fn hycc<F: Files, S: Sink>(
+    alloc: Global,
+    words: &[String],
+    files: &mut F,
+    sink: &mut S,
+) -> Status
     // There is no other status.
     ensures statuses { (result.code ≡ 0) ⊎ (result.code ≡ 1) ⊎ (result.code ≡ 2) ⊎ (result.code ≡ 3) ⊎ (result.code ≡ 6) ⊎ (result.code ≡ 9) ⊎ (result.code ≡ 10) }
 
@@ -46,7 +51,13 @@ pub fn hycc<F: Files, S: Sink>(alloc: Global, words: &[String], files: &mut F, s
     ensures store { F.store files.new ≡ F.store files.old }
 {
     match requested(alloc, words) {
-        Ok(Some(request)) => exec_with(alloc, &request.job, files, sink, ChaCha20Rng::from_seed(request.seed)),
+        Ok(Some(request)) => exec_with(
+            alloc,
+            &request.job,
+            files,
+            sink,
+            ChaCha20Rng::from_seed(request.seed),
+        ),
         Ok(None) => refuse(alloc, sink),
         Err(Memory) => Status { code: 10 },
     }

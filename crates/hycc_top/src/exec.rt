@@ -81,13 +81,13 @@ pub fn exec_with<F: Files, S: Sink, R: Rng + Drop>(
     // With memory and without a fault of the sink the line of the status is printed whole, and nothing else.
     ensures line { result.code ≢ 9 → result.code ≢ 10 →
         (line : List ℕ) × IsEnding (F.store files.old) (F.failed_reads files.old) (F.failed_reads files.new)
-            (string_bytes job.now.source) (string_bytes job.now.a) (string_bytes job.now.b) result.code line
+        (string_bytes job.now.source) (string_bytes job.now.a) (string_bytes job.now.b) result.code line
         × Appends (S.taken sink.old) (S.taken sink.new) line }
 
     // Where the sink failed, some first bytes of the line stand, and not the whole.
     ensures sink_fault { result.code ≡ 9 →
         (code : ℕ) × (line : List ℕ) × (count : ℕ) × IsEnding (F.store files.old) (F.failed_reads files.old) (F.failed_reads files.new)
-            (string_bytes job.now.source) (string_bytes job.now.a) (string_bytes job.now.b) code line
+        (string_bytes job.now.source) (string_bytes job.now.a) (string_bytes job.now.b) code line
         × (count < length line) × Appends (S.taken sink.old) (S.taken sink.new) (take count line)
         × Rose (S.faults sink.old) (S.faults sink.new) }
 
@@ -111,7 +111,12 @@ pub fn exec_with<F: Files, S: Sink, R: Rng + Drop>(
 }
 
 /// The status and the line of a run.
-fn run<F: Files, R: Rng>(alloc: Global, job: &Exec, files: &mut F, dealer: &mut R) -> Result<Line, Stop>
+fn run<F: Files, R: Rng>(
+    alloc: Global,
+    job: &Exec,
+    files: &mut F,
+    dealer: &mut R,
+) -> Result<Line, Stop>
     ensures line { MatchResult result
         (λ line. IsEnding (F.store files.old) (F.failed_reads files.old) (F.failed_reads files.new) (string_bytes job.now.source) (string_bytes job.now.a) (string_bytes job.now.b) line.code (string_bytes line.text))
         (λ stop. OnLine stop (IsEnding (F.store files.old) (F.failed_reads files.old) (F.failed_reads files.new) (string_bytes job.now.source) (string_bytes job.now.a) (string_bytes job.now.b))) }

@@ -28,7 +28,13 @@ pub enum Outcome {
 }
 
 /// Reads the three texts in order, and opens the sum where all are of their forms.
-pub fn outcome_of<R: Rng>(alloc: Global, source: &[u8], a: &[u8], b: &[u8], dealer: &mut R) -> Result<Outcome, Memory>
+pub fn outcome_of<R: Rng>(
+    alloc: Global,
+    source: &[u8],
+    a: &[u8],
+    b: &[u8],
+    dealer: &mut R,
+) -> Result<Outcome, Memory>
     ensures { IfOk result (IsOutcome source.now a.now b.now) }
 {
     let Some(sum) = source_sum(alloc, source)? else {

@@ -19,7 +19,10 @@ pub fn opened_sum<R: Rng>(terms: &[Term], x: u64, y: u64, dealer: &mut R) -> u64
 {
     let a = split(x, dealer);
     let b = split(y, dealer);
-    let mut sum = Shares { first: 0, second: 0 };
+    let mut sum = Shares {
+        first: 0,
+        second: 0,
+    };
     for term in terms {
         sum = added(sum, term_shares(*term, a, b));
     }

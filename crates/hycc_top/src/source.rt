@@ -88,7 +88,10 @@ fn parameter<'a>(tokens: &'a [Token], prefix: &[u8]) -> Option<(&'a [u8], &'a [T
 {
     let tokens = expect(tokens, b"unsigned")?;
     match tokens {
-        [name, rest @ ..] if name.text.as_bytes().starts_with(prefix) => Some((name.text.as_bytes(), rest)),
+        [name, rest @ ..] if name.text.as_bytes().starts_with(prefix) => Some((
+            name.text.as_bytes(),
+            rest,
+        )),
         _ => None,
     }
 }

@@ -6,9 +6,11 @@ use rand_core::SeedableRng;
 use std::alloc::{AllocError, Global};
 use std::test::Fail;
 
-const SUM: &str = "unsigned mpc_main(unsigned INPUT_A_x, unsigned INPUT_B_y) { return INPUT_A_x + INPUT_B_y; }";
+const SUM: &str =
+    "unsigned mpc_main(unsigned INPUT_A_x, unsigned INPUT_B_y) { return INPUT_A_x + INPUT_B_y; }";
 
-const RUN: &str = "hycc|exec|s|a|b|--seed|0000000000000000000000000000000000000000000000000000000000000000";
+const RUN: &str =
+    "hycc|exec|s|a|b|--seed|0000000000000000000000000000000000000000000000000000000000000000";
 
 /// What a command did: its status and the bytes that the sink then held.
 #[derive(Drop)]
@@ -21,7 +23,10 @@ struct Done {
 fn files(alloc: Global, source: &str, a: &str, b: &str, fails: &[u64]) -> Result<MemFiles, Memory> {
     let mut files = Vec::new(alloc);
     for (name, bytes) in [("s", source), ("a", a), ("b", b)] {
-        files.push((Text::copy_of(alloc, name.as_bytes())?, Vec::from_slice(alloc, bytes.as_bytes())?))?;
+        files.push((
+            Text::copy_of(alloc, name.as_bytes())?,
+            Vec::from_slice(alloc, bytes.as_bytes())?,
+        ))?;
     }
     MemFiles::new(alloc, files, Vec::from_slice(alloc, fails)?)
 }
@@ -49,8 +54,18 @@ fn exec(alloc: Global, source: &str, a: &str, b: &str) -> Result<Done, Memory> {
 fn sources_are_summed_modulo_2_to_the_32(rt: HostRuntime) -> Result<(), Fail> {
     let alloc = rt.alloc();
     for (source, x, y, line) in [
-        (SUM, "{\"INPUT_A_x\":4294967295}", "{\"INPUT_B_y\":1}", "{\"bound\":0,\"out\":0}\n"),
-        (SUM, "{\"INPUT_A_x\":4294967295}\n", "{\"INPUT_B_y\":0}\n", "{\"bound\":0,\"out\":4294967295}\n"),
+        (
+            SUM,
+            "{\"INPUT_A_x\":4294967295}",
+            "{\"INPUT_B_y\":1}",
+            "{\"bound\":0,\"out\":0}\n",
+        ),
+        (
+            SUM,
+            "{\"INPUT_A_x\":4294967295}\n",
+            "{\"INPUT_B_y\":0}\n",
+            "{\"bound\":0,\"out\":4294967295}\n",
+        ),
         (
             "unsigned mpc_main(unsigned INPUT_A_x, unsigned INPUT_B_y) { return INPUT_A_x + 7 + INPUT_B_y; }",
             "{\"INPUT_A_x\":1}",
@@ -76,23 +91,53 @@ fn what_is_not_of_the_form_is_refused(rt: HostRuntime) -> Result<(), Fail> {
     let alloc = rt.alloc();
     let head = "unsigned mpc_main(unsigned INPUT_A_x, unsigned INPUT_B_y) { return ";
     for term in [
-        "INPUT_A_x - INPUT_B_y; }", "07; }", "2147483648; }", "INPUT_A_z; }", "; }", "1 +; }", "1; } }", "1 }", "1;", "1 2; }", "1u; }", "@; }",
+        "INPUT_A_x - INPUT_B_y; }",
+        "07; }",
+        "2147483648; }",
+        "INPUT_A_z; }",
+        "; }",
+        "1 +; }",
+        "1; } }",
+        "1 }",
+        "1;",
+        "1 2; }",
+        "1u; }",
+        "@; }",
     ] {
         let source = format!(in alloc; "{head}{term}")?;
         let done = exec(alloc, source.as_str(), "", "")?;
         assert_eq!(rt; done.code, 3, "{term}");
-        assert_eq!(rt; done.taken.as_slice(), b"{\"fault\":\"Form\",\"name\":\"s\"}\n".as_slice(), "{term}");
+        assert_eq!(rt;
+            done.taken.as_slice(),
+            b"{\"fault\":\"Form\",\"name\":\"s\"}\n".as_slice(),
+            "{term}"
+        );
     }
     for input in [
-        "", "{}", "{\"INPUT_A_x\":07}", "{\"INPUT_A_x\":4294967296}", "{\"INPUT_A_x\":}", "{\"INPUT_A_y\":1}", "{\"INPUT_A_x\": 1}", "{\"INPUT_A_x\":1}\n\n", "{\"INPUT_A_x\":-1}",
+        "",
+        "{}",
+        "{\"INPUT_A_x\":07}",
+        "{\"INPUT_A_x\":4294967296}",
+        "{\"INPUT_A_x\":}",
+        "{\"INPUT_A_y\":1}",
+        "{\"INPUT_A_x\": 1}",
+        "{\"INPUT_A_x\":1}\n\n",
+        "{\"INPUT_A_x\":-1}",
     ] {
         let done = exec(alloc, SUM, input, "")?;
         assert_eq!(rt; done.code, 6, "{input}");
-        assert_eq!(rt; done.taken.as_slice(), b"{\"fault\":\"Form\",\"name\":\"a\"}\n".as_slice(), "{input}");
+        assert_eq!(rt;
+            done.taken.as_slice(),
+            b"{\"fault\":\"Form\",\"name\":\"a\"}\n".as_slice(),
+            "{input}"
+        );
     }
     let done = exec(alloc, SUM, "{\"INPUT_A_x\":1}", "{\"INPUT_B_x\":1}")?;
     assert_eq!(rt; done.code, 6);
-    assert_eq!(rt; done.taken.as_slice(), b"{\"fault\":\"Form\",\"name\":\"b\"}\n".as_slice());
+    assert_eq!(rt;
+        done.taken.as_slice(),
+        b"{\"fault\":\"Form\",\"name\":\"b\"}\n".as_slice()
+    );
     Ok(())
 }
 
@@ -111,7 +156,10 @@ fn words_that_are_not_of_the_command_are_refused(rt: HostRuntime) -> Result<(), 
     ] {
         let done = command(alloc, words, files(alloc, SUM, "", "", &[])?)?;
         assert_eq!(rt; done.code, 1);
-        assert_eq!(rt; done.taken.as_slice(), b"{\"fault\":\"Words\"}\n".as_slice());
+        assert_eq!(rt;
+            done.taken.as_slice(),
+            b"{\"fault\":\"Words\"}\n".as_slice()
+        );
     }
     let done = command(
         alloc,
@@ -119,7 +167,10 @@ fn words_that_are_not_of_the_command_are_refused(rt: HostRuntime) -> Result<(), 
         files(alloc, SUM, "{\"INPUT_A_x\":3}", "{\"INPUT_B_y\":4}", &[])?,
     )?;
     assert_eq!(rt; done.code, 0);
-    assert_eq!(rt; done.taken.as_slice(), b"{\"bound\":0,\"out\":7}\n".as_slice());
+    assert_eq!(rt;
+        done.taken.as_slice(),
+        b"{\"bound\":0,\"out\":7}\n".as_slice()
+    );
     Ok(())
 }
 
@@ -131,15 +182,28 @@ fn a_file_that_fails_is_named(rt: HostRuntime) -> Result<(), Fail> {
         (1, "{\"fault\":\"FileFault\",\"name\":\"a\"}\n"),
         (2, "{\"fault\":\"FileFault\",\"name\":\"b\"}\n"),
     ] {
-        let files = files(alloc, SUM, "{\"INPUT_A_x\":1}", "{\"INPUT_B_y\":2}", &[call])?;
+        let files = files(
+            alloc,
+            SUM,
+            "{\"INPUT_A_x\":1}",
+            "{\"INPUT_B_y\":2}",
+            &[call],
+        )?;
         let done = command(alloc, RUN, files)?;
         assert_eq!(rt; done.code, 2);
         assert_eq!(rt; done.taken.as_slice(), line.as_bytes());
     }
     let absent = files(alloc, SUM, "", "", &[])?;
-    let done = command(alloc, "hycc|exec|s|a \"quoted\" name|b|--seed|0000000000000000000000000000000000000000000000000000000000000000", absent)?;
+    let done = command(
+        alloc,
+        "hycc|exec|s|a \"quoted\" name|b|--seed|0000000000000000000000000000000000000000000000000000000000000000",
+        absent,
+    )?;
     assert_eq!(rt; done.code, 2);
-    assert_eq!(rt; done.taken.as_slice(), b"{\"fault\":\"FileFault\",\"name\":\"a \\\"quoted\\\" name\"}\n".as_slice());
+    assert_eq!(rt;
+        done.taken.as_slice(),
+        b"{\"fault\":\"FileFault\",\"name\":\"a \\\"quoted\\\" name\"}\n".as_slice()
+    );
     Ok(())
 }
 
@@ -153,7 +217,13 @@ fn a_sink_that_fails_holds_the_first_bytes_of_the_line(rt: HostRuntime) -> Resul
     };
     let mut files = files(alloc, SUM, "{\"INPUT_A_x\":1}", "{\"INPUT_B_y\":2}", &[])?;
     let mut sink = MemSink::new(alloc, 99, 1, Vec::from_slice(alloc, &[5])?)?;
-    let status = exec_with(alloc, &job, &mut files, &mut sink, ChaCha20Rng::from_seed([0; 32]));
+    let status = exec_with(
+        alloc,
+        &job,
+        &mut files,
+        &mut sink,
+        ChaCha20Rng::from_seed([0; 32]),
+    );
     assert_eq!(rt; status.code, 9);
     assert_eq!(rt; sink.taken(), b"{\"bou".as_slice());
     Ok(())
@@ -161,7 +231,10 @@ fn a_sink_that_fails_holds_the_first_bytes_of_the_line(rt: HostRuntime) -> Resul
 
 /// A source of so many literals 1.
 fn ones(alloc: Global, count: u32) -> Result<String, AllocError> {
-    let mut source = String::from_str(alloc, "unsigned mpc_main(unsigned INPUT_A, unsigned INPUT_B) { return INPUT_A")?;
+    let mut source = String::from_str(
+        alloc,
+        "unsigned mpc_main(unsigned INPUT_A, unsigned INPUT_B) { return INPUT_A",
+    )?;
     for _ in 0..count {
         source.push_str(" + 1")?;
     }
@@ -172,15 +245,29 @@ fn ones(alloc: Global, count: u32) -> Result<String, AllocError> {
 #[test]
 fn thousands_of_terms_and_the_longest_source_are_read(rt: HostRuntime) -> Result<(), Fail> {
     let alloc = rt.alloc();
-    let done = exec(alloc, ones(alloc, 4999)?.as_str(), "{\"INPUT_A\":1}", "{\"INPUT_B\":9}")?;
+    let done = exec(
+        alloc,
+        ones(alloc, 4999)?.as_str(),
+        "{\"INPUT_A\":1}",
+        "{\"INPUT_B\":9}",
+    )?;
     assert_eq!(rt; done.code, 0);
-    assert_eq!(rt; done.taken.as_slice(), b"{\"bound\":0,\"out\":5000}\n".as_slice());
+    assert_eq!(rt;
+        done.taken.as_slice(),
+        b"{\"bound\":0,\"out\":5000}\n".as_slice()
+    );
     let mut source = ones(alloc, 1)?;
     for _ in source.len()..0x10_0000 {
         source.push(' ')?;
     }
-    assert_eq!(rt; exec(alloc, source.as_str(), "{\"INPUT_A\":1}", "{\"INPUT_B\":9}")?.code, 0);
+    assert_eq!(rt;
+        exec(alloc, source.as_str(), "{\"INPUT_A\":1}", "{\"INPUT_B\":9}")?.code,
+        0
+    );
     source.push(' ')?;
-    assert_eq!(rt; exec(alloc, source.as_str(), "{\"INPUT_A\":1}", "{\"INPUT_B\":9}")?.code, 3);
+    assert_eq!(rt;
+        exec(alloc, source.as_str(), "{\"INPUT_A\":1}", "{\"INPUT_B\":9}")?.code,
+        3
+    );
     Ok(())
 }

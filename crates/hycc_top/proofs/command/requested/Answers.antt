@@ -1,4 +1,4 @@
-use Rattle.std.proofs.Common.{◌≡◌, List, [], ◌∷◌, map, length, ap, refl, sym, ◌∙◌, arith, codes, rules, true, false}
+use Rattle.std.proofs.Common.{◌≡◌, map, length, ap, refl, ◌∙◌, arith, codes, rules, true, false}
 use Rattle.std.specs.List.{AllPass}
 use Rattle.std.specs.String.{string_bytes}
 use Rattle.hex.specs.Hex.{is_hex_digit}

@@ -1,4 +1,3 @@
-use Rattle.std.proofs.Common.{sym, ap, ◌∙◌}
 use Rattle.hycc_top.proofs.Runs.{ending_of}
 use Rattle.hycc_top.proofs.exec.run.Goals as goal
 

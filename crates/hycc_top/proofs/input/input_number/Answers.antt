@@ -1,4 +1,4 @@
-use Rattle.std.proofs.Common.{◌≡◌, Some, None, ap, sym, ◌∙◌, arith, decimal}
+use Rattle.std.proofs.Common.{◌≡◌, Some, None, ◌∙◌, arith, decimal}
 use Rattle.hycc_top.proofs.Inputs.{line_of_input, number_in}
 use Rattle.hycc_top.proofs.input.input_number.Goals as goal
 

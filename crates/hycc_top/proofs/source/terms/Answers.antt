@@ -1,6 +1,5 @@
-use Rattle.std.proofs.Common.{◌≡◌, sym, ap, ◌∙◌, arith, ◌-◌, length, take, drop, List, [], ◌∷◌, ◌++◌}
-use Rattle.hycc_top.specs.declared.source.Term.{Term}
-use Rattle.hycc_top.specs.Source.{terms_of, term_of}
+use Rattle.std.proofs.Common.{◌≡◌, sym, ap, ◌∙◌, arith, ◌-◌, length, take, drop, [], ◌∷◌, ◌++◌}
+use Rattle.hycc_top.specs.Source.{terms_of}
 use Rattle.hycc_top.proofs.Terms.{joined, joined-more, pair_cut, more_terms}
 use Rattle.hycc_top.proofs.source.terms.Goals as goal
 
