@@ -1,0 +1,5 @@
+mod Places
+mod Paths
+mod Moves
+mod Views
+pub mod Chains
