@@ -1,0 +1,6 @@
+pub mod Literal
+pub mod Circuit
+pub mod Meaning
+pub mod Shape
+pub mod Growth
+pub mod Answer
