@@ -1,0 +1,28 @@
+-- What the tests' ladders keep.
+use Rattle.std.proofs.Common.{◌≢◌, ℕ, ◌+◌, ◌<◌, ◌≤◌, List, [], ◌∷◌, ◌≡◌, length, take, drop, IsSome, sym, ◌∙◌, ap, subst, arith, length-take-le, take-append-drop, take-take}
+use Rattle.choice_core.specs.Growing.{before_last}
+use Rattle.choice_core.proofs.Sums.{Fits-left}
+use Rattle.std.specs.List.{All}
+use Rattle.std.proofs.lemmas.List.Elements.{All-head, All-tail}
+use Rattle.choice_core.specs.declared.sharings.Choice.{Choice}
+use Rattle.choice_core.specs.declared.sharings.Choice.TheVariants.{A}
+use Rattle.choice_core.specs.Problems.{Row, own_of, Fits}
+
+abbrev pub AllowsOthers : Row → Type 0
+AllowsOthers row = (c : Choice) → c ≢ A → IsSome (own_of row c)
+
+pub others_fit : (rows : List Row) → All AllowsOthers rows → (cs : List Choice) → All (λ c. c ≢ A) cs → length cs ≤ length rows → Fits rows cs
+unfolding Fits
+others_fit rows allow [] others short = tt
+others_fit [] allow (c ∷ cs) others short = absurd (omega arith)
+others_fit (row ∷ rows) allow (c ∷ cs) others short =
+    (All-head AllowsOthers row rows allow c (All-head (λ d. d ≢ A) c cs others), others_fit rows (All-tail AllowsOthers row rows allow) cs (All-tail (λ d. d ≢ A) c cs others) (omega arith))
+
+-- a prefix longer by one choice
+pub one_longer : (rows : List Row) (cs : List Choice) (i : ℕ) → i < length cs → Fits rows cs → (length (take (i + 1) cs) ≡ i + 1) × (before_last (take (i + 1) cs) ≡ take i cs) × Fits rows (take (i + 1) cs)
+one_longer rows cs i within fits =
+    let size = length-take-le (i + 1) cs (omega arith) in (
+      size,
+      ap (λ (k : ℕ). take k (take (i + 1) cs)) (omega (arith, size)) ∙ take-take i (i + 1) cs (omega arith),
+      Fits-left rows (take (i + 1) cs) (drop (i + 1) cs) (subst (λ (ds : List Choice). Fits rows ds) (sym (take-append-drop (i + 1) cs)) fits),
+    )

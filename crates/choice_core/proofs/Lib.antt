@@ -1,0 +1,8 @@
+pub mod Sums
+mod Steps
+pub mod Laws
+pub mod Limits
+mod Walks
+mod Loops
+mod Ladders
+pub mod Growth

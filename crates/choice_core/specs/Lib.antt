@@ -1,0 +1,5 @@
+pub mod Choices
+pub mod Problems
+pub mod Bound
+pub mod Least
+pub mod Growing

@@ -1,0 +1,267 @@
+ghost use Rattle.std.specs.Prelude.{◌≡◌, ◌≢◌, ◌+◌, ◌*◌, ◌<◌, ◌≤◌, ◌^◌, List, length, All, IfOk, IsSome};
+ghost use Rattle.choice_core.specs.declared.sharings.Choice.{Choice};
+ghost use Rattle.choice_core.specs.Problems.{own_of, Fits, IsFan, IsProblem, greatest_own, greatest_price};
+
+use crate::*;
+use std::alloc::{AllocError, Global};
+use std::process::Abort;
+use std::test::Fail;
+
+/// The fan from one module to another that costs 1000 between B and Y.
+fn edge(alloc: Global, from: u32, to: u32, count: u32) -> Result<Fan, AllocError>
+    requires below { from < to }
+    requires within { to < count }
+    ensures fan { IfOk result (λ f. IsFan count f) }
+    ensures price { IfOk result (λ f. greatest_price f ≡ 1000) }
+{
+    let mut consumers = Vec::new(alloc);
+    consumers.push(to)?;
+    Ok(Fan {
+        from,
+        to: Sequence::new(consumers),
+        price: [[0, 0, 0], [0, 0, 1000], [0, 1000, 0]],
+    })
+}
+
+/// The own costs of a module of `ladder`.
+fn row(number: u32, leaves: u32) -> [Option<u64>; 4]
+    ensures greatest { greatest_own result ≡ 1000 }
+    ensures some { (c : Choice) → c ≢ Choice.A → IsSome (own_of result c) }
+{
+    if number >= leaves {
+        [None, Some(0), Some(0), Some(1000)]
+    } else if number % 2 == 0 {
+        [None, Some(0), Some(1), Some(1000)]
+    } else {
+        [None, Some(1), Some(0), Some(1000)]
+    }
+}
+
+/// Leaves that would like Y and C in turn, each with an edge to a middle module of its own, and
+/// each of these with an edge to the last module.
+fn ladder(alloc: Global, leaves: u32) -> Result<Problem, AllocError>
+    requires { leaves ≤ 16 }
+    ensures problem { IfOk result (λ p. IsProblem p) }
+    ensures count { IfOk result (λ p. length p.own ≡ 2 * leaves + 1) }
+    ensures boolean { IfOk result (λ p. (cs : List Choice) → All (λ c. c ≢ Choice.A) cs → length cs ≤ length p.own → Fits p.own cs) }
+{
+    let count = 2 * leaves + 1;
+    let mut own = Vec::new(alloc);
+    for number in 0..count {
+        own.push(row(number, leaves))?;
+    }
+    let mut fans = Vec::new(alloc);
+    for leaf in 0..leaves {
+        fans.push(edge(alloc, leaf, leaves + leaf, count)?)?;
+        fans.push(edge(alloc, leaves + leaf, 2 * leaves, count)?)?;
+    }
+    Ok(Problem {
+        own: Sequence::new(own),
+        fans: Sequence::new(fans),
+    })
+}
+
+/// What the choices cost on the ladder, by its own definition.
+fn ladder_cost(leaves: usize, choices: &[Choice]) -> u64 {
+    let mut total = 0u64;
+    for (number, choice) in choices.iter().enumerate() {
+        let own = match choice {
+            Choice::A => u64::MAX,
+            Choice::Y if number < leaves => (number % 2) as u64,
+            Choice::C if number < leaves => (1 - number % 2) as u64,
+            Choice::Y | Choice::C => 0,
+            Choice::S => 1000,
+        };
+        total = total.saturating_add(own);
+    }
+    for leaf in 0..leaves {
+        let last = choices.len().saturating_sub(1);
+        for (from, to) in [
+            (leaf, leaves.saturating_add(leaf)),
+            (leaves.saturating_add(leaf), last),
+        ] {
+            let from_yao = matches!(choices.get(from), Some(Choice::Y));
+            let to_yao = matches!(choices.get(to), Some(Choice::Y));
+            if from_yao != to_yao {
+                total = total.saturating_add(1000);
+            }
+        }
+    }
+    total
+}
+
+/// The choices but A, by number.
+fn letter(number: usize) -> Choice
+    ensures { result ≢ Choice.A }
+{
+    match number % 3 {
+        0 => Choice::Y,
+        1 => Choice::C,
+        _ => Choice::S,
+    }
+}
+
+/// Writes the list of this number over Y, C and S, the first module's choice by the last digit.
+fn write_list(number: usize, choices: &mut [Choice])
+    ensures { All (λ c. c ≢ Choice.A) choices.new }
+{
+    let mut rest = number;
+    for choice in choices.iter_mut() {
+        *choice = letter(rest);
+        rest /= 3;
+    }
+}
+
+/// The cost of every list of `count` choices over Y, C and S, in the order of their numbers.
+fn all_costs(
+    rt: &impl Abort,
+    alloc: Global,
+    problem: &Problem,
+    leaves: usize,
+    choices: &mut [Choice],
+    lists: usize,
+) -> Result<Vec<u64>, AllocError>
+    requires problem { IsProblem problem.now }
+    requires whole { length choices.old ≡ length problem.now.own }
+    requires boolean { (cs : List Choice) → All (λ c. c ≢ Choice.A) cs → length cs ≤ length problem.now.own → Fits problem.now.own cs }
+{
+    let mut costs = Vec::new(alloc);
+    for number in 0..lists {
+        write_list(number, choices);
+        let found = cost(problem, choices);
+        assert_eq!(rt; found, ladder_cost(leaves, choices));
+        costs.push(found)?;
+    }
+    Ok(costs)
+}
+
+/// Compares the bound of each prefix of one length with the least cost below it.
+fn compare_bounds(rt: &impl Abort, problem: &Problem, least: &[u64], prefix: &mut [Choice])
+    requires problem { IsProblem problem.now }
+    requires short { length prefix.old ≤ length problem.now.own }
+    requires boolean { (cs : List Choice) → All (λ c. c ≢ Choice.A) cs → length cs ≤ length problem.now.own → Fits problem.now.own cs }
+{
+    for (number, least) in least.iter().enumerate() {
+        write_list(number, prefix);
+        assert!(rt;
+            bound(problem, prefix) <= *least,
+            "prefix {number} of {} choices",
+            prefix.len()
+        );
+    }
+}
+
+/// Grows the bound along a list of choices, and compares it with the plain one.
+fn compare_growth(
+    rt: &impl Abort,
+    alloc: Global,
+    problem: &Problem,
+    choices: &[Choice],
+    table: &mut [[u64; 3]],
+) -> Result<(), hy_bits::Memory>
+    requires problem { IsProblem problem.now }
+    requires few { length problem.now.fans < 2 ^ 32 }
+    requires size { length table.old ≡ length problem.now.own }
+    requires fits { Fits problem.now.own choices.now }
+{
+    clear(problem, table);
+    let mut grown = bound(problem, &choices[..0]);
+    for count in 0..choices.len() {
+        let places = touching(alloc, problem, count)?;
+        let prefix = &choices[..count + 1];
+        grown = grow(problem, places.as_slice(), prefix, table, grown);
+        assert_eq!(rt; grown, bound(problem, prefix));
+    }
+    Ok(())
+}
+
+/// The least cost below each prefix, from those below the prefixes longer by one choice.
+fn one_shorter(alloc: Global, longer: &[u64]) -> Result<Vec<u64>, AllocError> {
+    let third = longer.len() / 3;
+    let mut least = Vec::new(alloc);
+    for number in 0..third {
+        let first = longer.get(number).copied().unwrap_or(0);
+        let second = longer.get(number + third).copied().unwrap_or(0);
+        let last = longer.get(number + third + third).copied().unwrap_or(0);
+        least.push(first.min(second).min(last))?;
+    }
+    Ok(least)
+}
+
+/// The costs of all lists on a ladder, and the bounds of all prefixes.
+fn compare_ladder(
+    rt: &impl Abort,
+    alloc: Global,
+    leaves: u32,
+    lists: usize,
+) -> Result<(), AllocError>
+    requires { leaves ≤ 4 }
+{
+    let problem = ladder(alloc, leaves)?;
+    let count = 2 * leaves as usize + 1;
+    let mut choices = [Choice::Y; 9];
+    let mut least = all_costs(
+        rt,
+        alloc,
+        &problem,
+        leaves as usize,
+        &mut choices[..count],
+        lists,
+    )?;
+    for size in (0..=count).rev() {
+        compare_bounds(rt, &problem, least.as_slice(), &mut choices[..size]);
+        if size > 0 {
+            least = one_shorter(alloc, least.as_slice())?;
+        }
+    }
+    assert_eq!(rt; least.as_slice(), [u64::from(leaves / 2)].as_slice());
+    Ok(())
+}
+
+#[test]
+fn costs_are_the_ladder_s_and_bounds_lie_below_them(rt: HostRuntime) -> Result<(), Fail> {
+    compare_ladder(&rt, rt.alloc(), 0, 3)?;
+    compare_ladder(&rt, rt.alloc(), 1, 27)?;
+    compare_ladder(&rt, rt.alloc(), 2, 243)?;
+    compare_ladder(&rt, rt.alloc(), 3, 2187)?;
+    compare_ladder(&rt, rt.alloc(), 4, 19683)?;
+    Ok(())
+}
+
+#[test]
+fn a_ladder_of_sixteen_leaves_costs_eight_at_yao(rt: HostRuntime) -> Result<(), Fail> {
+    let problem = ladder(rt.alloc(), 16)?;
+    let mut choices = [Choice::Y; 33];
+    write_list(0, &mut choices);
+    assert_eq!(rt; cost(&problem, &choices), 8);
+    assert_eq!(rt; bound(&problem, &choices), 8);
+    Ok(())
+}
+
+#[test]
+fn a_bound_grows_as_the_plain_one(rt: HostRuntime) -> Result<(), Fail> {
+    let problem = ladder(rt.alloc(), 3)?;
+    assert!(rt; problem.fans.as_slice().len() == 6);
+    let mut choices = [Choice::Y; 7];
+    let mut table = [[0u64; 3]; 7];
+    for number in 0..2187 {
+        write_list(number, &mut choices);
+        compare_growth(&rt, rt.alloc(), &problem, &choices, &mut table)?;
+    }
+    Ok(())
+}
+
+#[test]
+fn a_middle_module_is_touched_by_its_two_edges(rt: HostRuntime) -> Result<(), Fail> {
+    let problem = ladder(rt.alloc(), 2)?;
+    assert!(rt; problem.fans.as_slice().len() == 4);
+    assert_eq!(rt;
+        touching(rt.alloc(), &problem, 2)?.as_slice(),
+        [0, 1].as_slice()
+    );
+    assert_eq!(rt;
+        touching(rt.alloc(), &problem, 4)?.as_slice(),
+        [1, 3].as_slice()
+    );
+    Ok(())
+}
