@@ -1,1 +1,3 @@
+pub mod Operations
 pub mod Shares
+pub mod Law

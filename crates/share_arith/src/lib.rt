@@ -1,44 +1,28 @@
-//! Arithmetic shares of words, after ABY (NDSS 2015): two words stand for the word that they add up to, modulo two to
-//! the width. No call takes memory.
+//! Arithmetic shares of words, the sharing A, after ABY (NDSS 2015): two numbers stand for the word that they add up to,
+//! modulo two to the width. No call takes memory.
 //!
-//! What a user of shares needs besides the clauses are the laws in `proofs/Laws.antt`: shares that are added share by
-//! share stand for the sum.
+//! `Arith` is the sharing as a `Sharing`: sums, differences, negation and cuts to a narrower width, for which nothing is
+//! sent, and products by a dealt triple. Shares and dealt numbers may be any numbers; what is sent and what a party ends with
+//! are words. `instr_send` and `instr_finish` do one instruction of a plan at A, or one gate of a level: inputs, operations
+//! with constants and openings among them. `share`, `opened` and `add` are for one word at a time.
+//!
+//! | definitions | of |
+//! |---|---|
+//! | `specs/Operations.antt` | the operations: their values, messages and new shares, and which triples agree |
+//! | `specs/Law.antt` | the laws of the sharing, with their proofs by cases |
+//!
+//! What two shares stand for, and each formula, stand in share_core's `specs/Arithmetic.antt` and `specs/Instructions.antt`.
+//! `proofs/Laws.antt` has what callers of `share`, `opened` and `add` need: shares that are added share by share stand for
+//! the sum.
 #![tactic(auto)]
 
-ghost use Rattle.std.specs.Prelude.{◌≡◌, ◌+◌, ◌-◌, ◌%◌};
-ghost use Rattle.hy_bits.specs.Words.{modulus, IsWord};
-ghost use Rattle.share_arith.specs.Shares.{StandFor};
+mod arith;
+mod instructions;
+mod words;
 
-use hy_bits::Width;
+pub use arith::{Arith, ArithOp, Triple};
+pub use instructions::{instr_finish, instr_send, instr_sent};
+pub use words::{add, opened, share};
 
-/// The two shares of a word that its owner makes with a dealt word: the dealt word, and the rest.
-pub fn share(w: Width, x: u64, r: u64) -> (u64, u64)
-    requires x { IsWord w x }
-    requires r { IsWord w r }
-    ensures own { result.0 ≡ r }
-    ensures rest { result.1 ≡ (x + (modulus w - r)) % modulus w }
-    ensures words { IsWord w result.0 × IsWord w result.1 }
-    ensures opens { StandFor w result.0 result.1 x }
-{
-    (r, hy_bits::sub(w, x, r))
-}
-
-/// The word that two shares stand for.
-pub fn opened(w: Width, x0: u64, x1: u64) -> u64
-    requires first { IsWord w x0 }
-    requires second { IsWord w x1 }
-    ensures value { StandFor w x0 x1 result }
-    ensures word { IsWord w result }
-{
-    hy_bits::add(w, x0, x1)
-}
-
-/// One party's share of a sum, from its shares of the two numbers.
-pub fn add(w: Width, x: u64, y: u64) -> u64
-    requires x { IsWord w x }
-    requires y { IsWord w y }
-    ensures value { result ≡ (x + y) % modulus w }
-    ensures word { IsWord w result }
-{
-    hy_bits::add(w, x, y)
-}
+#[cfg(test)]
+mod tests;

@@ -1,0 +1,4 @@
+pub mod ArithmeticLaws
+pub mod ByteLaws
+pub mod FrameLaws
+pub mod InstructionLaws
