@@ -1,0 +1,5 @@
+pub mod NetLaws
+pub mod BitSteps
+pub mod TreeLaws
+pub mod TopLaws
+pub mod CellLaws

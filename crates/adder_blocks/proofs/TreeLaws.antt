@@ -1,0 +1,45 @@
+-- Halves of lists, as the trees take them.
+use Rattle.std.proofs.Common.{◌≡◌, ℕ, zero, suc, ◌-◌, ◌*◌, ◌/◌, ◌^◌, ◌≤◌, Bool, ◌&&◌, List, [], ◌∷◌, ◌++◌, take, drop, refl, sym, ap, ◌∙◌, arith}
+use Rattle.std.proofs.Math.Nat.{pow-suc}
+use Rattle.std.proofs.lemmas.Nat.{pow_pos}
+use Rattle.std.specs.List.{All, list_all}
+use Rattle.std.proofs.lemmas.List.{take-append-drop, map-append}
+use Rattle.std.proofs.lemmas.List.Folds.{list_all-append}
+use Rattle.gate_net.specs.declared.literal.Lit.{Lit}
+use Rattle.gate_net.specs.Circuit.{Circuit}
+use Rattle.gate_net.specs.Meaning.{value}
+use Rattle.adder_blocks.specs.Spelled.{values}
+
+-- both halves of a length of at least 2 are within half of its power of two
+pub halve : (n k : ℕ) → n ≤ 2 ^ k → 2 ≤ n → (j : ℕ) × (k ≡ suc j) × (n - n / 2 ≤ 2 ^ j) × (n / 2 ≤ 2 ^ j)
+halve n zero short two = absurd (omega arith)
+halve n (suc j) short two =
+    let twice : 2 ^ suc j ≡ 2 ^ j * 2 = pow-suc 2 j in
+    (j, refl, omega arith, omega arith)
+
+-- a number is within its own power of two
+pub within_power : (n : ℕ) → n ≤ 2 ^ n
+within_power zero = omega arith
+within_power (suc n) = omega (arith, within_power n, pow-suc 2 n, pow_pos n)
+
+pub All-take : {X : Type 0} (P : X → Type 0) (n : ℕ) (xs : List X) → All P xs → All P (take n xs)
+All-take P zero xs h = λ k d l. absurd (omega arith)
+All-take P (suc n) [] h = λ k d l. absurd (omega arith)
+All-take P (suc n) (x ∷ xs) h = cons (h 0 x (omega arith)) (All-take P n xs (λ k d l. h (suc k) d (omega arith)))
+  where
+    cons : P x → All P (take n xs) → All P (x ∷ take n xs)
+    cons p q zero d l = p
+    cons p q (suc k) d l = q k d (omega arith)
+
+pub All-drop : {X : Type 0} (P : X → Type 0) (n : ℕ) (xs : List X) → All P xs → All P (drop n xs)
+All-drop P zero xs h = h
+All-drop P (suc n) [] h = h
+All-drop P (suc n) (x ∷ xs) h = All-drop P n xs (λ k d l. h (suc k) d (omega arith))
+
+-- all of a list are all of its two parts
+pub all_of-split : (n : Circuit) (bits : List Bool) (ls low high : List Lit) (m : ℕ) → low ≡ take m ls → high ≡ drop m ls → (list_all (λ b. b) (values n bits low) && list_all (λ b. b) (values n bits high)) ≡ list_all (λ b. b) (values n bits ls)
+all_of-split n bits ls low high m e f =
+    let whole : low ++ high ≡ ls = ap (λ (xs : List Lit). xs ++ high) e ∙ ap (λ (ys : List Lit). take m ls ++ ys) f ∙ take-append-drop m ls in
+    sym (list_all-append (λ b. b) (values n bits low) (values n bits high))
+    ∙ ap (list_all (λ b. b)) (sym (map-append (value n bits) low high))
+    ∙ ap (λ (xs : List Lit). list_all (λ b. b) (values n bits xs)) whole
