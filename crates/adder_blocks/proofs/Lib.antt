@@ -2,4 +2,5 @@ pub mod NetLaws
 pub mod BitSteps
 pub mod TreeLaws
 pub mod TopLaws
+pub mod ShiftLaws
 pub mod CellLaws

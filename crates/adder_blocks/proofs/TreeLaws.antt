@@ -43,3 +43,8 @@ all_of-split n bits ls low high m e f =
     sym (list_all-append (λ b. b) (values n bits low) (values n bits high))
     ∙ ap (list_all (λ b. b)) (sym (map-append (value n bits) low high))
     ∙ ap (λ (xs : List Lit). list_all (λ b. b) (values n bits xs)) whole
+
+-- and below its power, but for equality
+pub below_power : (n : ℕ) → suc n ≤ 2 ^ n
+below_power zero = omega arith
+below_power (suc n) = omega (arith, below_power n, pow-suc 2 n)

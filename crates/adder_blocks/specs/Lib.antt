@@ -1,3 +1,4 @@
 pub mod Spelled
 pub mod Steps
 pub mod Cells
+pub mod Shifts

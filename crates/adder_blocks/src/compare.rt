@@ -33,7 +33,7 @@ pub(crate) fn majority(net: &mut Net, a: Lit, b: Lit, carry: Lit) -> Result<Lit,
 }
 
 /// Whether all literals are 1: a tree of ANDs by halves.
-fn all_of(net: &mut Net, ls: &[Lit]) -> Result<Lit, GateFault>
+pub(crate) fn all_of(net: &mut Net, ls: &[Lit]) -> Result<Lit, GateFault>
     requires stand { AllStand net.old ls.now }
     requires some { 0 < length ls.now }
     ensures grows { Grows net.old net.new (length ls.now - 1) (length ls.now - 1) }

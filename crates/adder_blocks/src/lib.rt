@@ -5,10 +5,12 @@
 mod compare;
 mod lookahead;
 mod selection;
+mod shifts;
 mod sums;
 #[cfg(test)]
 mod tests;
 
 pub use compare::{equal, less_s, less_u};
 pub use selection::choose;
+pub use shifts::shift;
 pub use sums::{difference, negative, sum};

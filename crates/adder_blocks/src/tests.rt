@@ -1,8 +1,10 @@
 ghost use Rattle.std.specs.Prelude.{◌≡◌, ◌+◌, ◌*◌, ◌≤◌, length, IfOk};
 ghost use Rattle.adder_blocks.specs.Spelled.{AllStand};
 
+use crate::shifts::shift;
 use crate::sums::sum;
 use gate_net::{Form, GateFault, Lit, Net};
+use hy_bits::Op;
 use std::alloc::Global;
 use std::test::Fail;
 
@@ -39,5 +41,25 @@ fn the_shallow_sum_has_depth_7_at_64(rt: HostRuntime) -> Result<(), Fail> {
     let out = sum(rt.alloc(), &mut net, Form::Shallow, &a, &b)?;
     net.set_outs(out);
     assert!(rt; net.depth(rt.alloc())? <= 7);
+    Ok(())
+}
+
+#[test]
+fn constants_are_shifted_without_gates(rt: HostRuntime) -> Result<(), Fail> {
+    let mut net = Net::new(rt.alloc(), 0, 1 << 10);
+    let word = [Lit::TRUE, Lit::FALSE, Lit::FALSE, Lit::TRUE];
+    let rows = [
+        (Op::Shl, [Lit::FALSE, Lit::TRUE, Lit::FALSE, Lit::FALSE]),
+        (Op::ShrU, [Lit::FALSE, Lit::FALSE, Lit::TRUE, Lit::FALSE]),
+        (Op::ShrS, [Lit::FALSE, Lit::FALSE, Lit::TRUE, Lit::TRUE]),
+    ];
+    for (op, wanted) in rows {
+        let out = shift(rt.alloc(), &mut net, Form::Compact, op, &word, &[Lit::TRUE])?;
+        assert_eq!(rt; out.as_slice(), wanted.as_slice());
+    }
+    let far = [Lit::FALSE, Lit::FALSE, Lit::TRUE];
+    let out = shift(rt.alloc(), &mut net, Form::Shallow, Op::ShrS, &word, &far)?;
+    assert_eq!(rt; out.as_slice(), [Lit::TRUE; 4].as_slice());
+    assert_eq!(rt; net.ands(), 0);
     Ok(())
 }
