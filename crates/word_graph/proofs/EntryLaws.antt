@@ -4,7 +4,7 @@ use Rattle.std.proofs.lemmas.Option.{slice_get_within, get_or_from_slice_get, sl
 use Rattle.std.proofs.lemmas.List.{append-nil, length_push, length-map, map-append, get_or-take, length-take-le}
 use Rattle.std.proofs.lemmas.List.Folds.{list_all_at}
 use Rattle.std.specs.Bool.{Decides}
-use Rattle.std.specs.List.{list_all, list_any, position, Contains}
+use Rattle.std.specs.List.{All, list_all, list_any, position, Contains}
 use Rattle.std.proofs.lemmas.List.Quantifiers.{position-Some}
 use Rattle.hy_bits.specs.declared.op.Op.{Op}
 use Rattle.hy_bits.specs.declared.op.Op.TheVariants.{In, Const, Sel}
@@ -13,7 +13,7 @@ use Rattle.hy_bits.specs.Op.{IsTakenBy}
 use Rattle.hy_bits.specs.Words.{IsWord}
 use Rattle.word_graph.specs.declared.entry.Entry.{Entry}
 use Rattle.word_graph.specs.declared.entry.Term.{Term}
-use Rattle.word_graph.specs.Term.{arity, NumberFits, argument, entry_of, region_of, term_of, terms_of, width_at}
+use Rattle.word_graph.specs.Term.{taken_by, arity, NumberFits, argument, entry_of, region_of, term_of, terms_of, width_at}
 use Rattle.word_graph.specs.Size.{size_after, term_size}
 use Rattle.word_graph.specs.Shape.{FitsAfter, IsEntryAfter, AreEntries, IsGraph, constant_entry, constant_at, has_constants_only, node_limit}
 use Rattle.word_graph.proofs.OpLaws.{constant_word-some, IsTakenBy-fits}
@@ -36,6 +36,10 @@ module _ {X : Type 0} where
 
 -- ---- what stands at a place
 
+pub arity-three : (op : Op) → arity op ≤ 3
+arity-three Sel = omega arith
+arity-three _ = omega arith
+
 pub AreEntries-at : (before es : List Entry) (k : ℕ) (e : Entry) → AreEntries before es → slice_get es k ≡ Some e → IsEntryAfter (before ++ take k es) e
 AreEntries-at before [] k e h s = absurd (cc)
 AreEntries-at before (x ∷ es) zero e h s =
@@ -52,6 +56,21 @@ AreEntries-take before [] zero h = tt
 AreEntries-take before [] (suc n) h = tt
 AreEntries-take before (e ∷ es) zero h = tt
 AreEntries-take before (e ∷ es) (suc n) h = (h.0, AreEntries-take (before ++ e ∷ []) es n h.1)
+
+-- what an entry takes stands before it
+pub taken_by-earlier : (es : List Entry) (k : ℕ) (e : Entry) → IsGraph es → slice_get es k ≡ Some e → All (λ a. a < k) (taken_by e)
+taken_by-earlier es k e graph s j d within =
+    let entry = AreEntries-at [] es k e graph.entries s in
+    let few : length (take (arity e.op) e.args) ≡ arity e.op = length-take-le (arity e.op) e.args (omega (arith, entry.fits.three, arity-three e.op)) in
+    let used : argument (term_of e) j < length (take k es) = entry.fits.used j (omega arith) in
+    let same : get_or (take (arity e.op) e.args) j d ≡ argument (term_of e) j =
+        get_or-take (arity e.op) e.args j d (omega arith) ∙ get_or-default e.args j d 0 (omega (arith, entry.fits.three, arity-three e.op)) in
+    rw same (omega (arith, length-take-le k es (omega (arith, slice_get_within es k e s))))
+  where
+    get_or-default : (xs : List ℕ) (i c d : ℕ) → i < length xs → get_or xs i c ≡ get_or xs i d
+    get_or-default [] i c d h = absurd (omega arith)
+    get_or-default (x ∷ xs) zero c d h = refl
+    get_or-default (x ∷ xs) (suc i) c d h = get_or-default xs i c d (omega arith)
 
 -- the width at a place
 pub width_at-get : (es : List Entry) (k : ℕ) (e : Entry) → slice_get es k ≡ Some e → width_at es k ≡ e.width
@@ -96,10 +115,6 @@ constant_at-word es k n g h =
     let number : IsWord c.0.width c.0.number = subst (λ (op : Op). NumberFits op c.0.width c.0.number) c.2 entry.fits.number in
     let of_width : IsWord c.0.width n = subst (λ (m : ℕ). IsWord c.0.width m) c.3 number in
     subst (λ (w : Width). IsWord w n) (sym (width_at-get es k c.0 c.1)) of_width
-
-pub arity-three : (op : Op) → arity op ≤ 3
-arity-three Sel = omega arith
-arity-three _ = omega arith
 
 bool_cases : (b : Bool) → (b ≡ true) ⊎ (b ≡ false)
 bool_cases true = inl refl

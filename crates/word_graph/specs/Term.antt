@@ -74,6 +74,10 @@ NumberFits _ w n = n ≡ 0
 abbrev pub argument : Term → ℕ → ℕ
 argument t k = get_or t.args k 0
 
+-- the places of the nodes that a node takes
+abbrev pub taken_by : Entry → List ℕ
+taken_by e = take (arity e.op) e.args
+
 -- the term of an operation over these nodes; places that are left over are 0
 abbrev pub called_term : Op → Width → List Node → ℕ → Term
 called_term op w nodes n = record { op = op; width = w; args = take 3 (map (λ (node : Node). node.index) nodes ++ 0 ∷ 0 ∷ 0 ∷ []); number = n }

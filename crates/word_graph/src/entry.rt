@@ -1,6 +1,6 @@
 //! Nodes and what stands for them in a graph.
-ghost use Rattle.std.specs.Prelude.{◌≡◌};
-ghost use Rattle.word_graph.specs.Term.{arity, entry_of, term_of, called_term};
+ghost use Rattle.std.specs.Prelude.{◌≡◌, ◌≤◌};
+ghost use Rattle.word_graph.specs.Term.{arity, taken_by, entry_of, term_of, called_term};
 
 use hy_bits::{Op, Width};
 
@@ -32,6 +32,13 @@ pub struct Term {
 }
 
 impl Entry {
+    /// The places of the nodes that it takes, in order.
+    pub fn taken(&self) -> &[u32]
+        ensures { result.now ≡ taken_by self.now }
+    {
+        &self.args[..arity(self.op)]
+    }
+
     /// What the node computes.
     pub fn term(&self) -> Term
         ensures { result ≡ term_of self.now }
@@ -84,7 +91,8 @@ impl Term {
 
 /// How many arguments an operation takes.
 pub fn arity(op: Op) -> usize
-    ensures { result ≡ arity op }
+    ensures value { result ≡ arity op }
+    ensures few { result ≤ 3 }
 {
     match op {
         Op::In | Op::Const => 0,

@@ -1,0 +1,13 @@
+-- Laws of lists of numbers, by their own numbers.
+use Rattle.std.proofs.Common.{◌≡◌, ℕ, ◌<◌, List, [], set, length, sym, ◌∙◌, arith}
+use Rattle.std.specs.Prelude.{Vec}
+use Rattle.std.specs.declared.alloc.Global.{Global}
+use Rattle.std.proofs.lemmas.List.{map-set, get_or-set_same, get_or-set_other, length-set, length-map}
+use Rattle.module_split.specs.Lists.{items_of, Puts}
+
+pub Puts-set : (lists : List (Vec ℕ Global)) (k : ℕ) (v : Vec ℕ Global) (xs : List ℕ) → k < length lists → v.items ≡ xs → Puts (items_of lists) (items_of (set lists k v)) k xs
+Puts-set lists k v xs within e = record {
+  count = length-map (set lists k v) (λ (w : Vec ℕ Global). w.items) ∙ length-set lists k v ∙ sym (length-map lists (λ (w : Vec ℕ Global). w.items));
+  here = rw map-set (get_or-set_same (items_of lists) k v.items [] (omega (arith, length-map lists (λ (w : Vec ℕ Global). w.items))) ∙ e);
+  others = λ j apart. rw map-set (get_or-set_other (items_of lists) k j v.items [] apart);
+}

@@ -1,0 +1,6 @@
+use Rattle.std.proofs.Common.{◌≡◌, map, take}
+use Rattle.module_split.specs.Homes.{group_of}
+use Rattle.module_split.proofs.homes.groups_of.Given as goal
+
+abbrev pub invariant-loop-home : goal.invariant-loop-home
+invariant-loop-home l = l.groups.items ≡ map (group_of l.layers) (take l.home-index l.homes)

@@ -1,0 +1,6 @@
+pub mod Pieces
+pub mod Lists
+pub mod Homes
+pub mod Cut
+pub mod Steps
+pub mod Parts
