@@ -323,11 +323,11 @@ fn modules_of(
     entries: &[Entry],
     results: &[Node],
     belonging: &Belonging,
-    using: &Using,
+    uses: &Using,
 ) -> Result<Vec<Module>, Memory>
     requires stand { All (λ node. node.index < length entries.now) results.now }
     requires entries { length belonging.now.numbers.items ≡ length entries.now }
-    requires using { IsUsing entries.now belonging.now.numbers.items (length belonging.now.order.keys) using.now }
+    requires uses { IsUsing entries.now belonging.now.numbers.items (length belonging.now.order.keys) uses.now }
     ensures { IfOk result (λ list. list.items ≡ map (module_of entries.now belonging.now.homes.items belonging.now.order.keys belonging.now.numbers.items results.now) (below (length belonging.now.order.keys))) }
 {
     let wanted = wanted_of(alloc, results, entries.len())?;
@@ -335,9 +335,9 @@ fn modules_of(
     let mut list = Vec::new(alloc);
     for number in 0..belonging.order.len() {
         let layer = layer_at(&belonging.order, number);
-        let nodes = using.nodes.get(number);
-        let outs = outs_of(alloc, number, nodes, &using.users, numbers, &wanted)?;
-        let ins = using.ins.get(number);
+        let nodes = uses.nodes.get(number);
+        let outs = outs_of(alloc, number, nodes, &uses.users, numbers, &wanted)?;
+        let ins = uses.ins.get(number);
         let module = module_with(alloc, &belonging.homes, layer, nodes, ins, outs)?;
         list.push(module)?;
     }
@@ -388,8 +388,8 @@ pub fn split(alloc: Global, graph: &Graph, results: &[Node], layers: u32) -> Res
     let belonging = belonging_of(alloc, entries, layers)?;
     let numbers = belonging.numbers.as_slice();
     let count = belonging.order.len();
-    let using = using_of(alloc, entries, numbers, count)?;
-    let list = modules_of(alloc, entries, results, &belonging, &using)?;
-    let edges = edges_of(alloc, entries, numbers, count, &using.crossing)?;
+    let uses = using_of(alloc, entries, numbers, count)?;
+    let list = modules_of(alloc, entries, results, &belonging, &uses)?;
+    let edges = edges_of(alloc, entries, numbers, count, &uses.crossing)?;
     Ok(Modules::new(list, edges))
 }

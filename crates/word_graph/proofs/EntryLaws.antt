@@ -64,7 +64,7 @@ taken_by-earlier es k e graph s j d within =
     let few : length (take (arity e.op) e.args) ≡ arity e.op = length-take-le (arity e.op) e.args (omega (arith, entry.fits.three, arity-three e.op)) in
     let used : argument (term_of e) j < length (take k es) = entry.fits.used j (omega arith) in
     let same : get_or (take (arity e.op) e.args) j d ≡ argument (term_of e) j =
-        get_or-take (arity e.op) e.args j d (omega arith) ∙ get_or-default e.args j d 0 (omega (arith, entry.fits.three, arity-three e.op)) in
+    get_or-take (arity e.op) e.args j d (omega arith) ∙ get_or-default e.args j d 0 (omega (arith, entry.fits.three, arity-three e.op)) in
     rw same (omega (arith, length-take-le k es (omega (arith, slice_get_within es k e s))))
   where
     get_or-default : (xs : List ℕ) (i c d : ℕ) → i < length xs → get_or xs i c ≡ get_or xs i d
