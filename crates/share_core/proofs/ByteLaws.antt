@@ -1,6 +1,7 @@
 -- Laws of numbers as bytes.
-use Rattle.std.proofs.Common.{◌≡◌, ℕ, zero, suc, ◌+◌, ◌-◌, ◌*◌, ◌/◌, ◌%◌, ◌^◌, ◌<◌, ◌≤◌, List, [], ◌∷◌, ◌++◌, length, take, set, refl, sym, ap, ◌∙◌, append_assoc, arith}
+use Rattle.std.proofs.Common.{◌≡◌, ℕ, zero, suc, ◌+◌, ◌-◌, ◌*◌, ◌/◌, ◌%◌, ◌^◌, ◌<◌, ◌≤◌, List, [], ◌∷◌, ◌++◌, length, take, drop, set, refl, sym, ap, ◌∙◌, append_assoc, arith}
 use Rattle.std.proofs.Math.Nat.{pow-succ', pow-le-pow_right}
+use Rattle.std.proofs.Math.Seq.{take-append_seam, drop-append_seam}
 use Rattle.std.proofs.lemmas.List.{take_more_set, take_all, append-nil}
 use Rattle.hy_bits.specs.declared.width.Width as Width
 use Rattle.hy_bits.specs.declared.width.Width.TheVariants.{W1, W8, W16, W32, W64}
@@ -56,3 +57,32 @@ bytes-fit n few = let some : zero < 256 = omega arith in pow-le-pow_right some f
 
 pub room-above : (b r n : ℕ) → r < 256 ^ n → n ≤ 7 → b < 256 → b + 256 * r < 2 ^ 64
 room-above b r n small few byte = omega (arith, bytes-fit n few)
+
+-- ---- the parts of a message
+
+pub take_front : (n : ℕ) (xs ys : List ℕ) → length xs ≡ n → take n (xs ++ ys) ≡ xs
+take_front n xs ys e = ap (λ (k : ℕ). take k (xs ++ ys)) (sym e) ∙ take-append_seam xs ys
+
+pub drop_front : (n : ℕ) (xs ys : List ℕ) → length xs ≡ n → drop n (xs ++ ys) ≡ ys
+drop_front n xs ys e = ap (λ (k : ℕ). drop k (xs ++ ys)) (sym e) ∙ drop-append_seam xs ys
+
+-- ---- lists of bytes
+
+abbrev pub AreBytes : List ℕ → Type 0
+AreBytes [] = Unit {0}
+AreBytes (b ∷ bs) = (b < 256) × AreBytes bs
+
+pub append_bytes : (xs ys : List ℕ) → AreBytes xs → AreBytes ys → AreBytes (xs ++ ys)
+append_bytes [] ys left right = right
+append_bytes (x ∷ xs) ys left right = (left.0, append_bytes xs ys left.1 right)
+
+pub drop_bytes : (n : ℕ) (xs : List ℕ) → AreBytes xs → AreBytes (drop n xs)
+drop_bytes zero xs are = are
+drop_bytes (suc n) [] are = tt
+drop_bytes (suc n) (x ∷ xs) are = drop_bytes n xs are.1
+
+-- the number of n bytes, or of fewer
+pub number_take-lt : (n : ℕ) (xs : List ℕ) → AreBytes xs → number (take n xs) < 256 ^ n
+number_take-lt zero xs are = omega arith
+number_take-lt (suc n) [] are = omega (arith, pow-succ' 256 n, number_take-lt n [] tt)
+number_take-lt (suc n) (x ∷ xs) are = let first : x < 256 = are.0 in omega (arith, pow-succ' 256 n, number_take-lt n xs are.1)

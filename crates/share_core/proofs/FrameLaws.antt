@@ -1,11 +1,10 @@
 -- Reading the frame that was written.
-use Rattle.std.proofs.Common.{◌≡◌, ℕ, ◌+◌, ◌^◌, ◌<◌, ◌≤◌, List, ◌++◌, length, take, Result, Ok, Err, IsOk, refl, sym, ap, subst, ◌∙◌, inl, inr, append_assoc, length-append, arith}
-use Rattle.std.proofs.Math.Seq.{take-append_seam}
+use Rattle.std.proofs.Common.{◌≡◌, ℕ, ◌+◌, ◌^◌, ◌<◌, ◌≤◌, List, ◌++◌, length, take, Result, Ok, Err, IsOk, refl, ap, subst, ◌∙◌, inl, inr, append_assoc, length-append, arith}
 use Rattle.share_core.specs.declared.frames.FrameFault.{FrameFault}
 use Rattle.share_core.specs.declared.frames.FrameFault.TheVariants.{Short, Kind, Length}
 use Rattle.share_core.specs.Bytes.{bytes, number}
 use Rattle.share_core.specs.Frames.{frame_of, announced, Announces, IsAnswer}
-use Rattle.share_core.proofs.ByteLaws.{length-bytes, number-bytes}
+use Rattle.share_core.proofs.ByteLaws.{length-bytes, number-bytes, take_front}
 
 -- where the head is as wanted and the payload stands whole, the answer is Ok
 pub answer-ok : (frame : List ℕ) (kind payload : ℕ) (answer : Result (Unit {0}) FrameFault) → Announces frame kind payload → payload + 5 ≤ length frame → IsAnswer frame kind payload answer → IsOk answer
@@ -14,14 +13,11 @@ answer-ok frame kind payload (Err Short) head whole is = elim is [ inl short ↦
 answer-ok frame kind payload (Err Kind) head whole is = absurd (is.1 head.1)
 answer-ok frame kind payload (Err Length) head whole is = absurd (is.2 head.2)
 
-front : (n : ℕ) (xs ys : List ℕ) → length xs ≡ n → take n (xs ++ ys) ≡ xs
-front n xs ys e = ap (λ (k : ℕ). take k (xs ++ ys)) (sym e) ∙ take-append_seam xs ys
-
 pub announced-frame : (kind : ℕ) (payload rest : List ℕ) → length payload < 2 ^ 32 → announced (frame_of kind payload ++ rest) ≡ length payload
 announced-frame kind payload rest short =
     let head : List ℕ = bytes 4 (length payload) in
     let below : length payload < 256 ^ 4 = omega arith in
-    ap number (ap (λ (xs : List ℕ). take 4 xs) (append_assoc head payload rest) ∙ front 4 head (payload ++ rest) (length-bytes 4 (length payload))) ∙ number-bytes 4 (length payload) below
+    ap number (ap (λ (xs : List ℕ). take 4 xs) (append_assoc head payload rest) ∙ take_front 4 head (payload ++ rest) (length-bytes 4 (length payload))) ∙ number-bytes 4 (length payload) below
 
 pub length-frame : (kind : ℕ) (payload rest : List ℕ) → length payload + 5 ≤ length (frame_of kind payload ++ rest)
 length-frame kind payload rest =

@@ -1,8 +1,10 @@
 -- What one instruction does at one party: what the party sends, and the share that it ends with, as formulas of its shares,
 -- of what was dealt to it and of what the other sent; and what is dealt, as a function of the words drawn for it.
 --
--- The kinds of every sharing are listed under "frames". The formulas are those of the sharing A: of inputs, of local
+-- The kinds of every sharing are listed under "frames". The formulas below are those of the sharing A: of inputs, of local
 -- operations, of the gates of a level, and of openings. For the kinds of other sharings they say nothing: no bytes, share 0.
+-- Those of B stand in Boolean.antt, those of Y in Garbled.antt, those of conversions in Conversions.antt, and what is dealt
+-- for each kind in Dealing.antt.
 use Rattle.std.specs.Prelude.{◌≡◌, ℕ, suc, ◌-◌, ◌*◌, ◌/◌, ◌%◌, Bool, true, false, List, [], ◌∷◌, ◌++◌, length, take, drop, slice_index, replicate}
 use Rattle.hy_bits.specs.declared.width.Width.{Width}
 use Rattle.hy_bits.specs.declared.turns.Role.{Role}
@@ -81,14 +83,7 @@ word_at slots code = slice_index slots (slot_of code)
 abbrev pub half_of : List ℕ → List ℕ
 half_of words = words ++ replicate (512 - length words) 0
 
--- how many words are drawn: r for an input, and a, b, a0, b0 and c0 for a product
-abbrev pub drawn_A : InstrKind → ℕ
-drawn_A InAP0 = 1
-drawn_A InAP1 = 1
-drawn_A MulA = 5
-drawn_A _ = 0
-
--- the words of the role's half: an input's owner has r; of a product each role has its a, b and c, P1 what P0 has not
+-- the words drawn are r for an input, and a, b, a0, b0 and c0 for a product. The words of the role's half: an input's owner has r; of a product each role has its a, b and c, P1 what P0 has not
 abbrev pub dealt_A : InstrKind → Width → Role → List ℕ → List ℕ
 dealt_A InAP0 w P0 drawn = (slice_index drawn 0 % modulus w) ∷ []
 dealt_A InAP1 w P1 drawn = (slice_index drawn 0 % modulus w) ∷ []
@@ -194,19 +189,26 @@ InstrOpens =
 abbrev pub DealtHalvesAgree : Type 0
 DealtHalvesAgree = (kind : InstrKind) (w : Width) (drawn : List ℕ) → HalvesAgree_A kind w (half_of (dealt_A kind w P0 drawn)) (half_of (dealt_A kind w P1 drawn))
 
--- ---- whole instructions at A, over the party's slots. `halves` gives the role's half of each gate
+-- ---- levels: a party's gates of one depth, the k-th of which is given with its number k
 
--- a level: its gates' messages one after another, and its gates' new shares, each from its piece of the other's message
+-- the gates' messages one after another
+abbrev pub level_message : (ℕ → Instr → List ℕ) → ℕ → List Instr → List ℕ
+level_message message k [] = []
+level_message message k (gate ∷ gates) = message k gate ++ level_message message (suc k) gates
+
+-- the gates' new shares, each from its piece of the other's message
+abbrev pub level_shares : {S : Type 0} → (Instr → ℕ) → (ℕ → Instr → List ℕ → S) → ℕ → List Instr → List ℕ → List S
+level_shares received share k [] inbox = []
+level_shares received share k (gate ∷ gates) inbox = share k gate (take (received gate) inbox) ∷ level_shares received share (suc k) gates (drop (received gate) inbox)
+
+-- at A, over the party's slots. `halves` gives the role's half of each gate
 abbrev pub level_message_A : Role → List ℕ → (ℕ → List ℕ) → ℕ → List Instr → List ℕ
-level_message_A role slots halves k [] = []
-level_message_A role slots halves k (gate ∷ gates) =
-    message_A gate.kind gate.width role (word_at slots gate.left) (word_at slots gate.right) (halves k) ++ level_message_A role slots halves (suc k) gates
+level_message_A role slots halves k gates =
+    level_message (λ n gate. message_A gate.kind gate.width role (word_at slots gate.left) (word_at slots gate.right) (halves n)) k gates
 
 abbrev pub level_shares_A : Role → List ℕ → (ℕ → List ℕ) → ℕ → List Instr → List ℕ → List ℕ
-level_shares_A role slots halves k [] inbox = []
-level_shares_A role slots halves k (gate ∷ gates) inbox =
-    let piece = sent_A gate.kind gate.width (other role) in
-    share_A gate.kind gate.width role gate.value (word_at slots gate.left) (word_at slots gate.right) (halves k) (take piece inbox) ∷ level_shares_A role slots halves (suc k) gates (drop piece inbox)
+level_shares_A role slots halves k gates inbox =
+    level_shares (λ gate. sent_A gate.kind gate.width (other role)) (λ n gate piece. share_A gate.kind gate.width role gate.value (word_at slots gate.left) (word_at slots gate.right) (halves n) piece) k gates inbox
 
 -- the frame of a payload that an instruction's role sends
 abbrev pub frame_for : InstrKind → List ℕ → List ℕ

@@ -3,3 +3,8 @@ pub mod Frames
 pub mod Roles
 pub mod Arithmetic
 pub mod Instructions
+pub mod Boolean
+pub mod Garbled
+pub mod Conversions
+pub mod Dealing
+pub mod Sizes

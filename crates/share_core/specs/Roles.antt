@@ -1,5 +1,5 @@
 -- The two parties.
-use Rattle.std.specs.Prelude.{ℕ}
+use Rattle.std.specs.Prelude.{ℕ, Bool, true, false}
 use Rattle.hy_bits.specs.declared.turns.Role.{Role}
 use Rattle.hy_bits.specs.declared.turns.Role.TheVariants.{P0, P1}
 
@@ -11,3 +11,11 @@ other P1 = P0
 abbrev pub index : Role → ℕ
 index P0 = 0
 index P1 = 1
+
+abbrev pub is_first : Role → Bool
+is_first P0 = true
+is_first P1 = false
+
+abbrev pub is_second : Role → Bool
+is_second P0 = false
+is_second P1 = true
