@@ -116,3 +116,11 @@ AllWithin-complements n d (l ∷ ls) h =
 pub AllWithin-replicate : (n : Circuit) (d k : ℕ) (l : Lit) → level n l ≤ d → AllWithin n d (replicate k l)
 AllWithin-replicate n d zero l h = λ k e w. absurd (omega arith)
 AllWithin-replicate n d (suc k) l h = All-cons (λ x. level n x ≤ d) l (replicate k l) h (AllWithin-replicate n d k l h)
+
+-- the bit of a literal at a place, once the net has grown
+pub bit-at : {n m : Circuit} {g i : ℕ} → Grows n m g i → (bits : List Bool) (ls : List Lit) (k : ℕ) → AllStand n ls → k < length ls → value m bits (get_or ls k (record { code = 0 })) ≡ get_or (values n bits ls) k false
+bit-at {n} p bits ls k h at = Grows-value p bits (get_or ls k (record { code = 0 })) (h k (record { code = 0 }) at) ∙ sym (get_or-values n bits ls k (record { code = 0 }) false at)
+
+-- and its level
+pub level-at : {n m : Circuit} {g i : ℕ} → Grows n m g i → (d : ℕ) (ls : List Lit) (k : ℕ) → AllStand n ls → AllWithin n d ls → k < length ls → level m (get_or ls k (record { code = 0 })) ≤ d
+level-at p d ls k h low at = omega (arith, Grows-level p (get_or ls k (record { code = 0 })) (h k (record { code = 0 }) at), low k (record { code = 0 }) at)

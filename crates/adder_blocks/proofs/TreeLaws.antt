@@ -1,14 +1,16 @@
 -- Halves of lists, as the trees take them.
-use Rattle.std.proofs.Common.{◌≡◌, ℕ, zero, suc, ◌-◌, ◌*◌, ◌/◌, ◌^◌, ◌≤◌, Bool, ◌&&◌, List, [], ◌∷◌, ◌++◌, take, drop, refl, sym, ap, ◌∙◌, arith}
+use Rattle.std.proofs.Common.{◌≡◌, ℕ, zero, suc, ◌+◌, ◌-◌, ◌*◌, ◌/◌, ◌%◌, ◌^◌, ◌≤◌, Bool, ◌&&◌, List, [], ◌∷◌, ◌++◌, length, take, drop, refl, sym, ap, ◌∙◌, arith}
 use Rattle.std.proofs.Math.Nat.{pow-suc}
 use Rattle.std.proofs.lemmas.Nat.{pow_pos}
 use Rattle.std.specs.List.{All, list_all}
-use Rattle.std.proofs.lemmas.List.{take-append-drop, map-append}
+use Rattle.std.proofs.lemmas.List.{take-append-drop, map-append, length-map, take-map}
 use Rattle.std.proofs.lemmas.List.Folds.{list_all-append}
 use Rattle.gate_net.specs.declared.literal.Lit.{Lit}
 use Rattle.gate_net.specs.Circuit.{Circuit}
 use Rattle.gate_net.specs.Meaning.{value}
-use Rattle.adder_blocks.specs.Spelled.{values}
+use Rattle.hy_bits.specs.Bits.{number}
+use Rattle.hy_bits.proofs.BitLaws.{number-append, number-take}
+use Rattle.adder_blocks.specs.Spelled.{values, spelled}
 
 -- both halves of a length of at least 2 are within half of its power of two
 pub halve : (n k : ℕ) → n ≤ 2 ^ k → 2 ≤ n → (j : ℕ) × (k ≡ suc j) × (n - n / 2 ≤ 2 ^ j) × (n / 2 ≤ 2 ^ j)
@@ -48,3 +50,15 @@ all_of-split n bits ls low high m e f =
 pub below_power : (n : ℕ) → suc n ≤ 2 ^ n
 below_power zero = omega arith
 below_power (suc n) = omega (arith, below_power n, pow-suc 2 n)
+
+-- the number of a list in two parts
+pub spelled-parts : (n : Circuit) (bits : List Bool) (ls low high : List Lit) (m : ℕ) → low ≡ take m ls → high ≡ drop m ls → length low ≡ m → spelled n bits ls ≡ spelled n bits low + 2 ^ m * spelled n bits high
+spelled-parts n bits ls low high m front back long =
+    ap (spelled n bits) (sym (take-append-drop m ls) ∙ ap (λ (xs : List Lit). xs ++ drop m ls) (sym front) ∙ ap (λ (ys : List Lit). low ++ ys) (sym back))
+    ∙ ap number (map-append (value n bits) low high)
+    ∙ number-append (values n bits low) (values n bits high)
+    ∙ ap (λ (k : ℕ). number (values n bits low) + 2 ^ k * number (values n bits high)) (length-map low (value n bits) ∙ long)
+
+-- the number of the lowest literals
+pub spelled-take : (n : Circuit) (bits : List Bool) (ls : List Lit) (k : ℕ) → spelled n bits (take k ls) ≡ spelled n bits ls % 2 ^ k
+spelled-take n bits ls k = ap number (sym (take-map (value n bits) k ls)) ∙ number-take k (values n bits ls)

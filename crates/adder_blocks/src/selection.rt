@@ -43,6 +43,7 @@ pub fn choose(
 
     // The answer, for all inputs.
     ensures stands { IfOk result (λ r. AllStand net.new r.items) }
+    ensures same { IfOk result (λ r. length r.items ≡ length a.now) }
     ensures value { IfOk result (λ r. (bits : List Bool) → values net.new bits r.items ≡ (if value net.old bits c then values net.old bits a.now else values net.old bits b.now)) }
     ensures level { IfOk result (λ r. (d : ℕ) → level net.old c ≤ d → AllWithin net.old d a.now → AllWithin net.old d b.now → AllWithin net.new (d + 1) r.items) }
 

@@ -1,5 +1,5 @@
 use Rattle.std.proofs.Common.{◌+◌, ◌<◌, Bool, false, List, length, get_or, take, ap, ◌∙◌, arith}
-use Rattle.std.proofs.lemmas.List.{take_all, length-map}
+use Rattle.std.proofs.lemmas.List.{take_all, length-map, length_push}
 use Rattle.hy_bits.specs.Bits.{bitwise}
 use Rattle.gate_net.specs.Meaning.{value}
 use Rattle.gate_net.proofs.GrowthLaws.{Grows-value, Grows-level}
@@ -32,6 +32,7 @@ loop-place-preserved c =
           (omega (arith, Grows-level p.grows c.args.c c.requires.selector))
           (omega (arith, Grows-level p.grows _ (c.requires.first c.loop-place.place (record { code = 0 }) c.loop-place-test.true), first c.loop-place.place (record { code = 0 }) c.loop-place-test.true))
           (omega (arith, Grows-level p.grows _ (c.requires.second c.loop-place.place (record { code = 0 }) at_b), second c.loop-place.place (record { code = 0 }) at_b))),
+      omega (arith, length_push c.loop-place.out.items c.in_ok-bit.bit),
     )
 
 pub returns-clause-value : goal.returns-clause-value

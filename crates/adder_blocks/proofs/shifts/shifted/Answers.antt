@@ -1,19 +1,17 @@
-use Rattle.std.proofs.Common.{◌≡◌, ℕ, zero, suc, ◌+◌, ◌*◌, ◌^◌, ◌<◌, ◌≤◌, Bool, true, nat_lt, if◌then◌else◌, List, [], ◌++◌, length, take, drop, replicate, sym, ap, ◌∙◌, inl, inr, arith, rules}
+use Rattle.std.proofs.Common.{◌≡◌, ℕ, zero, suc, ◌+◌, ◌*◌, ◌^◌, ◌<◌, ◌≤◌, Bool, true, nat_lt, if◌then◌else◌, List, [], length, take, drop, replicate, sym, ap, ◌∙◌, inl, inr, arith, rules}
 use Rattle.std.proofs.Math.Nat.{mul-le-mul_left}
-use Rattle.std.proofs.lemmas.List.{take-append-drop, map-append, length-map}
+use Rattle.std.proofs.lemmas.List.{length-map}
 use Rattle.std.proofs.lemmas.Bool.{cases_lt}
 use Rattle.std.proofs.lemmas.Bool.Decides.{nat_tests}
 use Rattle.std.proofs.lemmas.Result.{err_from_is_err_and}
 use Rattle.hy_bits.specs.Bits.{number}
-use Rattle.hy_bits.proofs.BitLaws.{number-append}
-use Rattle.gate_net.specs.declared.literal.Lit.{Lit}
-use Rattle.gate_net.specs.Circuit.{Circuit, Stands}
+use Rattle.gate_net.specs.Circuit.{Stands}
 use Rattle.gate_net.specs.Meaning.{value}
 use Rattle.gate_net.proofs.GrowthLaws.{Grows-value, Grows-trans, Grows-then, StopsWithin-after}
 use Rattle.adder_blocks.specs.Spelled.{values, spelled, AllStand}
 use Rattle.adder_blocks.specs.Shifts.{moved_by}
 use Rattle.adder_blocks.proofs.NetLaws.{values-Grows, length-from_values}
-use Rattle.adder_blocks.proofs.TreeLaws.{All-drop}
+use Rattle.adder_blocks.proofs.TreeLaws.{All-drop, spelled-parts}
 use Rattle.adder_blocks.proofs.ShiftLaws.{map-replicate, moved_by-length, moved_by-full}
 use Rattle.adder_blocks.proofs.shifts.shifted.Goals as goal
 
@@ -27,14 +25,6 @@ few width stages k short small = elim (cases_lt k stages) [
 -- the selections, the test of further bits and the last selection are within the bound
 room : (n stages k high count : ℕ) → stages ≤ k → stages + high ≡ count → (3 * n * stages + high + 3 * n ≤ 8 * (n * (1 + k)) + 4 * count) × (n * stages + high + n ≤ 8 * (n * (1 + k)) + 4 * count)
 room n stages k high count h whole = let product = mul-le-mul_left {m = stages} {n = k} n h in (omega (arith, product), omega (arith, product))
-
--- a count of more bits
-whole_count : (n : Circuit) (bits : List Bool) (count low high : List Lit) (stages : ℕ) → low ≡ take stages count → high ≡ drop stages count → length low ≡ stages → spelled n bits count ≡ spelled n bits low + 2 ^ stages * spelled n bits high
-whole_count n bits count low high stages front back long =
-    ap (spelled n bits) (sym (take-append-drop stages count) ∙ ap (λ (xs : List Lit). xs ++ drop stages count) (sym front) ∙ ap (λ (ys : List Lit). low ++ ys) (sym back))
-    ∙ ap number (map-append (value n bits) low high)
-    ∙ number-append (values n bits low) (values n bits high)
-    ∙ ap (λ (k : ℕ). number (values n bits low) + 2 ^ k * number (values n bits high)) (length-map low (value n bits) ∙ long)
 
 -- the last selection: everything is pushed out where a further bit is 1
 selected : (up f : Bool) (low high stages count : ℕ) (xs ys near : List Bool) → ys ≡ replicate (length xs) f → near ≡ moved_by up f low xs → count ≡ low + 2 ^ stages * high → length xs ≤ 2 ^ stages →
@@ -135,4 +125,4 @@ returns-clause-value c = λ bits.
     known
     ∙ ap (λ (b : Bool). if b then values c.any_of.new.net bits c.deref.result.now else values c.any_of.new.net bits c.in_ok-near.near.items) test
     ∙ selected c.args.up (value n bits c.args.fill) (spelled n bits c.split_at.result.0.now) (spelled n bits c.split_at.result.1.now) c.stages.result (spelled n bits c.args.count.now) (values n bits c.args.a.now) _ _ far stayed
-    (whole_count n bits c.args.count.now c.split_at.result.0.now c.split_at.result.1.now c.stages.result front back low) wide
+    (spelled-parts n bits c.args.count.now c.split_at.result.0.now c.split_at.result.1.now c.stages.result front back low) wide

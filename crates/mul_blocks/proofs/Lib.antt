@@ -1,0 +1,2 @@
+pub mod ModLaws
+pub mod RowLaws
