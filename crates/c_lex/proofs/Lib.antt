@@ -1,1 +1,7 @@
-pub mod Scanning
+pub mod Declarations
+pub mod Faults
+pub mod LineEnds
+pub mod ReadSteps
+pub mod Tables
+pub mod TypeSteps
+pub mod Wellness

@@ -1,1 +1,10 @@
+pub mod Names
+pub mod Lines
+pub mod Macros
+pub mod Directives
+pub mod Typedefs
+pub mod Scopes
 pub mod Lexing
+pub mod Answer
+pub mod Inner
+pub mod Views

@@ -1,178 +1,70 @@
-ghost use Rattle.std.specs.Prelude.{◌≡◌, ◌<◌, ◌≤◌, ◌^◌, Ok, Err, Some, length, IfOk, IfErr};
-ghost use Rattle.std.specs.List.{prefix_len};
-ghost use Rattle.c_lex.specs.Lexing.{after, is_digit as is_digit_byte, is_mark as is_mark_byte, is_space as is_space_byte, is_word_byte as is_byte_of_word, word_token as token_of_word, token_at as token_that_begins, tokens_of};
+ghost use Rattle.std.specs.Prelude.{◌≡◌, ◌<◌, ◌≤◌, ◌^◌, ◌++◌, ◌∷◌, [], true, length, IfOk, IfErr, ◌≢◌, List, Ok, Err};
+ghost use Rattle.std.specs.List.{list_all};
+ghost use Rattle.c_lex.specs.Lines.{lines_of};
+ghost use Rattle.c_lex.specs.Directives.{nothing_read, steps};
+ghost use Rattle.c_lex.specs.Lexing.{tokens_of, end_token};
+ghost use Rattle.c_lex.specs.Typedefs.{named};
+ghost use Rattle.c_tree.specs.TokenLists.{is_inner};
+ghost use Rattle.c_tree.specs.declared.token.Token.{Token};
+ghost use Rattle.c_lex.specs.Answer.{Gives};
+ghost use Rattle.c_lex.specs.Inner.{read_of};
 
-use crate::token::{LexFault, LexKind, Place, Token, TokenKind, Tokens};
-use hy_bits::{Memory, Text, decimal_number};
+use crate::fault::{LexFault, LexKind};
+use crate::reader::Reader;
+use crate::typedefs::name_types;
+use c_scan::{Piece, scan};
+use c_tree::{Place, Token, TokenKind, Tokens};
+use hy_bits::{Scalar, Text};
 use std::alloc::Global;
 
-/// The literals of the language are the numbers below this.
-const LITERAL_END: u64 = 0x8000_0000;
-
-/// The tokens of a text, or the first place where none begins. It takes time linear in the text and in the tokens made.
+/// The tokens of a text of fewer than 2^31 bytes, or its first fault. It takes time linear in the text and in the
+/// tokens made, and memory for both.
 pub fn tokens(alloc: Global, bytes: &[u8]) -> Result<Tokens, LexFault>
     requires { length bytes.now < 2 ^ 31 }
-    ensures ok { IfOk result (λ tokens. tokens_of bytes.now ≡ Ok tokens.list.items) }
-    ensures bad_byte { IfErr result (λ fault. fault.kind ≡ LexKind.BadByte → tokens_of bytes.now ≡ Err fault.place) }
+    // The tokens are those that the definition gives the text.
+    ensures ok { IfOk result (λ tokens. tokens_of bytes.now ≡ Ok tokens) }
+    // A fault other than want of memory is the definition's, with its place.
+    ensures fault { IfErr result (λ fault. fault.kind ≢ LexKind.Memory → tokens_of bytes.now ≡ Err fault) }
+    // A text has at most one list of tokens.
+    ensures one { (a b : List Token) → tokens_of bytes.now ≡ Ok a → tokens_of bytes.now ≡ Ok b → a ≡ b }
 {
-    let mut list = Vec::new(alloc);
-    let mut place = Place { line: 1, column: 1 };
-    let mut inside = 0;
-    for (index, byte) in bytes.iter().enumerate() {
-        if inside > 0 {
-            inside -= 1;
-        } else if let Some(token) = token_at(alloc, &bytes[index..], place)? {
-            inside = token.text.as_bytes().len() - 1;
-            if list.push(token).is_err() {
-                return Err(want_of_memory(place));
-            }
-        }
-        place = place.after(*byte);
-    }
-    Ok(Tokens { list })
-}
-
-impl Place {
-    /// The place behind a byte that stands here.
-    fn after(self, byte: u8) -> Place
-        requires line { self.line < 2 ^ 31 }
-        requires column { self.column < 2 ^ 31 }
-        ensures { result ≡ after self byte }
-    {
-        if byte == b'\n' {
-            Place {
-                line: self.line + 1,
-                column: 1,
-            }
-        } else {
-            Place {
-                line: self.line,
-                column: self.column + 1,
-            }
-        }
+    let scan = scan(alloc, bytes)?;
+    let reader = read(alloc, &scan.pieces)?;
+    match scan.unclosed {
+        Some(place) => Err(LexFault::new(LexKind::OpenComment, place)),
+        None => closed(alloc, reader.made, scan.end),
     }
 }
 
-/// The token that begins with the first byte of a text at this place, or none where that byte is white space.
-fn token_at(alloc: Global, text: &[u8], place: Place) -> Result<Option<Token>, LexFault>
-    ensures ok { IfOk result (λ found. token_that_begins place text.now ≡ Ok found) }
-    ensures bad_byte { IfErr result (λ fault. fault.kind ≡ LexKind.BadByte → token_that_begins place text.now ≡ Err fault.place) }
+/// The tokens of all lines with the names of types, and the end.
+fn closed(alloc: Global, mut made: Vec<Token>, end: Place) -> Result<Tokens, LexFault>
+    requires inner { list_all is_inner made.items ≡ true }
+    requires few { length made.items ≤ 2 ^ 20 }
+    ensures ok { IfOk result (λ tokens. tokens ≡ named made.items ++ end_token end ∷ []) }
+    ensures fault { IfErr result (λ fault. fault.kind ≡ LexKind.Memory) }
 {
-    let Some(byte) = text.first() else {
-        return Ok(None);
-    };
-    let byte = *byte;
-    if is_word_byte(byte) {
-        word_token(alloc, &text[..word_length(text)], place)
-    } else if is_mark(byte) {
-        token(alloc, TokenKind::Mark, &text[..1], 0, place)
-    } else if is_space(byte) {
-        Ok(None)
-    } else {
-        Err(bad_byte(place))
-    }
+    name_types(alloc, &mut made)?;
+    made.push(Token {
+        kind: TokenKind::End,
+        text: Text::new(Vec::new(alloc)),
+        number: 0,
+        scalar: Scalar::S32,
+        place: end,
+    })?;
+    Ok(Tokens::new(made))
 }
 
-/// The token of a whole word.
-fn word_token(alloc: Global, word: &[u8], place: Place) -> Result<Option<Token>, LexFault>
-    requires { 0 < length word.now }
-    ensures ok { IfOk result (λ found. token_of_word place word.now ≡ Ok found) }
-    ensures bad_byte { IfErr result (λ fault. fault.kind ≡ LexKind.BadByte → token_of_word place word.now ≡ Err fault.place) }
+/// What the lines of a text make.
+fn read(alloc: Global, pieces: &[Piece]) -> Result<Reader, LexFault>
+    ensures { Gives read_of result (steps nothing_read (lines_of pieces.now)) }
 {
-    if !is_digit(word[0]) {
-        return token(alloc, TokenKind::Word, word, 0, place);
-    }
-    match decimal_number(word) {
-        Some(number) if number < LITERAL_END => token(
-            alloc,
-            TokenKind::Integer,
-            word,
-            number,
-            place,
-        ),
-        _ => Err(bad_byte(place)),
-    }
-}
-
-/// A token of these parts, with a copy of the bytes.
-fn token(
-    alloc: Global,
-    kind: TokenKind,
-    bytes: &[u8],
-    number: u64,
-    place: Place,
-) -> Result<Option<Token>, LexFault>
-    ensures ok { IfOk result (λ found. found ≡ Some (record { kind = kind; text = bytes.now; number = number; place = place })) }
-    ensures err { IfErr result (λ fault. fault.kind ≡ LexKind.Memory) }
-{
-    match Text::copy_of(alloc, bytes) {
-        Ok(text) => Ok(Some(Token {
-            kind,
-            text,
-            number,
-            place,
-        })),
-        Err(Memory) => Err(want_of_memory(place)),
-    }
-}
-
-fn bad_byte(place: Place) -> LexFault
-    ensures { result ≡ record { kind = LexKind.BadByte; place = place } }
-{
-    LexFault {
-        kind: LexKind::BadByte,
-        place,
-    }
-}
-
-fn want_of_memory(place: Place) -> LexFault
-    ensures { result ≡ record { kind = LexKind.Memory; place = place } }
-{
-    LexFault {
-        kind: LexKind::Memory,
-        place,
-    }
-}
-
-/// The number of bytes of the word that a text begins with.
-fn word_length(text: &[u8]) -> usize
-    ensures value { result ≡ prefix_len is_byte_of_word text.now }
-    ensures bound { result ≤ length text.now }
-{
-    for (index, byte) in text.iter().enumerate() {
-        if !is_word_byte(*byte) {
-            return index;
+    let mut reader = Reader::new(alloc);
+    let mut start = 0;
+    for (index, piece) in pieces.iter().enumerate() {
+        if let Piece::Line = piece {
+            reader = reader.line(alloc, &pieces[start..index])?;
+            start = index + 1;
         }
     }
-    text.len()
-}
-
-fn is_word_byte(byte: u8) -> bool
-    ensures { result ≡ is_byte_of_word byte }
-{
-    is_digit(byte) || (65 <= byte && byte <= 90) || (97 <= byte && byte <= 122) || byte == b'_'
-}
-
-fn is_digit(byte: u8) -> bool
-    ensures { result ≡ is_digit_byte byte }
-{
-    48 <= byte && byte <= 57
-}
-
-fn is_mark(byte: u8) -> bool
-    ensures { result ≡ is_mark_byte byte }
-{
-    byte == b'('
-        || byte == b')'
-        || byte == b'{'
-        || byte == b'}'
-        || byte == b','
-        || byte == b';'
-        || byte == b'+'
-}
-
-fn is_space(byte: u8) -> bool
-    ensures { result ≡ is_space_byte byte }
-{
-    (9 <= byte && byte <= 13) || byte == b' '
+    reader.line(alloc, &pieces[start..])
 }

@@ -1,15 +1,29 @@
-//! The tokens of a source text (C11 6.4): names, decimal literals and marks, each with its text and its place.
+//! The tokens of a source text (C11 6.4 and 6.10): white space and comments taken away, literals with their types, directives
+//! followed, object-like macros replaced, names of types told from other names.
 //!
-//! The definition stands in `specs/Lexing.antt`: at each place where a token may begin, the token is the longest run of
-//! word bytes that begins there, or one mark. [`tokens`] gives exactly the list of the definition, or the first place
-//! where there is none.
+//! | definitions | of |
+//! |---|---|
+//! | `c_scan`'s `specs/Pieces.antt` | the pieces of a text |
+//! | `specs/Lines.antt` | its lines |
+//! | `specs/Macros.antt` | the tokens that the pieces of a line stand for |
+//! | `specs/Directives.antt` | what each line does |
+//! | `specs/Typedefs.antt` | which names are names of types |
+//! | `specs/Lexing.antt` | the tokens of a text, or its first fault |
+//! | `specs/Names.antt` | names and macros in lists |
+//! | `specs/Answer.antt`, `specs/Inner.antt`, `specs/Scopes.antt`, `specs/Views.antt` | what the private functions answer |
+//!
+//! A text has one list of tokens or one first fault, since each definition is a function of what the one before it gives.
 #![tactic(auto)]
 
+mod fault;
 mod lexer;
-mod token;
+mod macros;
+mod names;
+mod reader;
+mod typedefs;
 
+pub use fault::{LexFault, LexKind};
 pub use lexer::tokens;
-pub use token::{LexFault, LexKind, Place, Token, TokenKind, Tokens};
 
 #[cfg(test)]
 mod tests;

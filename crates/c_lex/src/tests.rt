@@ -1,67 +1,114 @@
 ghost use Rattle.std.specs.Prelude.{◌<◌, ◌^◌, length};
 
 use super::*;
+use crate::tests::table::{ROWS, TEXTS};
+use c_tree::{Place, Token, TokenKind};
 use std::alloc::Global;
 use std::test::Fail;
 
-/// The tokens of a text, a line each.
-fn printed(alloc: Global, text: &str) -> Result<String, Fail>
+mod table;
+
+/// A token in print.
+fn printed_token(alloc: Global, token: &Token) -> Result<String, Fail> {
+    let Place { line, column } = token.place;
+    let kind = token.kind;
+    let text = str::from_utf8(token.text.as_bytes())?;
+    match kind {
+        TokenKind::End => Ok(format!(in alloc; "{line}:{column} End")?),
+        TokenKind::Integer | TokenKind::Character | TokenKind::Bound => {
+            let number = token.number;
+            let scalar = token.scalar;
+            Ok(format!(in alloc; "{line}:{column} {kind:?} {text} {number} {scalar:?}  ")?)
+        }
+        _ => Ok(format!(in alloc; "{line}:{column} {kind:?} {text}  ")?),
+    }
+}
+
+/// The tokens of a text in print, or its fault.
+fn printed(alloc: Global, text: &[u8]) -> Result<String, Fail>
     requires { length text.now < 2 ^ 31 }
 {
-    let tokens = tokens(alloc, text.as_bytes())?;
-    let mut lines = String::new(alloc);
-    for token in tokens.list.iter() {
-        let Token {
-            kind,
-            text,
-            number,
-            place,
-        } = token;
-        let text = str::from_utf8(text.as_bytes())?;
-        let Place { line, column } = *place;
-        let line = format!(in alloc; "{line}:{column} {kind:?} {text} {number}\n")?;
-        lines.push_str(line.as_str())?;
+    let found = match tokens(alloc, text) {
+        Ok(found) => found,
+        Err(LexFault { kind, place }) => {
+            let Place { line, column } = place;
+            return Ok(format!(in alloc; "{kind:?} {line}:{column}")?);
+        }
+    };
+    let mut all = String::new(alloc);
+    for token in found.as_slice() {
+        let token = printed_token(alloc, token)?;
+        all.push_str(token.as_str())?;
     }
-    Ok(lines)
+    Ok(all)
+}
+
+/// The bytes of a text of the table.
+fn bytes_of(alloc: Global, text: &str) -> Result<Vec<u8>, Fail> {
+    let mut bytes = Vec::new(alloc);
+    for (index, part) in text.split('~').enumerate() {
+        if index == 0 {
+            bytes.extend_from_slice(part.as_bytes())?;
+        } else {
+            let (code, rest) = part.split_at_checked(2).ok_or("two digits")?;
+            bytes.push(u8::from_str_radix(code, 16)?)?;
+            bytes.extend_from_slice(rest.as_bytes())?;
+        }
+    }
+    Ok(bytes)
 }
 
 #[test]
-fn texts_have_these_tokens(rt: HostRuntime) -> Result<(), Fail> {
-    for (text, want) in [
-        ("", ""),
-        (" \t\n\x0b\x0c\r", ""),
-        (
-            "\tunsigned\n_a9(\n\t+0",
-            "1:2 Word unsigned 0\n2:1 Word _a9 0\n2:4 Mark ( 0\n3:2 Mark + 0\n3:3 Integer 0 0\n",
-        ),
-        (
-            "2147483647;},{)x1y",
-            "1:1 Integer 2147483647 2147483647\n1:11 Mark ; 0\n1:12 Mark } 0\n1:13 Mark , 0\n1:14 Mark { 0\n1:15 Mark ) 0\n1:16 Word x1y 0\n",
-        ),
-    ] {
-        assert!(rt; text.len() < 100);
-        assert_eq!(rt; printed(rt.alloc(), text)?.as_str(), want, "{text:?}");
+fn texts_have_these_tokens_or_faults(rt: HostRuntime) -> Result<(), Fail> {
+    let mut rows = 0u32;
+    for line in TEXTS.lines() {
+        let (text, want) = line.split_once(" => ").ok_or("a text and its tokens")?;
+        let text = bytes_of(rt.alloc(), text)?;
+        assert!(rt; text.len() < 1000);
+        let want = bytes_of(rt.alloc(), want)?;
+        assert_eq!(rt;
+            printed(rt.alloc(), &text)?.as_bytes(),
+            want.as_slice(),
+            "{line}"
+        );
+        rows = rows.saturating_add(1);
     }
+    assert_eq!(rt; rows, ROWS);
     Ok(())
 }
 
-#[test]
-fn the_first_fault_is_named_with_its_place(rt: HostRuntime) {
-    let alloc = rt.alloc();
-    for (text, line, column) in [
-        (b"@".as_slice(), 1, 1),
-        (b"a\n  b - c".as_slice(), 2, 5),
-        (b"07".as_slice(), 1, 1),
-        (b"x 2147483648".as_slice(), 1, 3),
-        (b"99999999999999999999999999".as_slice(), 1, 1),
-        (b"1 12ab @".as_slice(), 1, 3),
-        (b"a\x00".as_slice(), 1, 2),
-        (b"\n\n\xff".as_slice(), 3, 1),
-    ] {
-        let fault = LexFault {
-            kind: LexKind::BadByte,
-            place: Place { line, column },
-        };
-        assert!(rt; tokens(alloc, text).err() == Some(fault), "{text:?}");
+/// A macro of 1000 tokens, and so many uses of it on the next line.
+fn uses(alloc: Global, count: u32) -> Result<String, Fail> {
+    let mut text = String::from_str(alloc, "#define M ")?;
+    for _ in 0..1000 {
+        text.push_str(";")?;
     }
+    text.push_str("\n")?;
+    for _ in 0..count {
+        text.push_str("M ")?;
+    }
+    Ok(text)
+}
+
+#[test]
+fn more_than_2_to_the_20_tokens_are_too_many(rt: HostRuntime) -> Result<(), Fail> {
+    let alloc = rt.alloc();
+    let most = uses(alloc, 1047)?;
+    assert!(rt; most.len() < 10000);
+    let found = tokens(alloc, most.as_bytes());
+    assert_eq!(rt;
+        found.ok().map(|found| found.as_slice().len()),
+        Some(1_047_001)
+    );
+    let more = uses(alloc, 1048)?;
+    assert!(rt; more.len() < 10000);
+    let fault = LexFault {
+        kind: LexKind::Tokens,
+        place: Place {
+            line: 2,
+            column: 2095,
+        },
+    };
+    assert!(rt; tokens(alloc, more.as_bytes()).err() == Some(fault));
+    Ok(())
 }

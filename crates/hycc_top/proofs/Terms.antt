@@ -2,7 +2,7 @@
 use Rattle.std.proofs.Common.{◌≡◌, ℕ, ◌-◌, ◌≤◌, true, List, [], ◌∷◌, ◌++◌, length, take, drop, get_or, Option, None, Some, refl, ap, sym, ◌∙◌, arith, append_assoc, codes}
 use Rattle.std.proofs.lemmas.List.{take_all}
 use Rattle.std.specs.Str.{bytes_eq}
-use Rattle.c_lex.specs.declared.token.Token.{Token}
+use Rattle.c_tree.specs.declared.token.Token.{Token}
 use Rattle.hycc_top.specs.Source.{expect, term_of, terms_of}
 use Rattle.std.specs.Option.{option_map}
 use Rattle.hycc_top.specs.declared.source.Term.{Term}

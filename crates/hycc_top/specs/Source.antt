@@ -1,13 +1,15 @@
 -- The sources that are run: a function that returns the sum of its two parameters and of literals, each any number of
 -- times (C11 6.9.1, cut down):
 --   unsigned mpc_main(unsigned INPUT_A.., unsigned INPUT_B..) { return T + T + .. ; }
-use Rattle.std.specs.Prelude.{ℕ, ◌%◌, ◌^◌, Bool, false, ◌&&◌, List, [], ◌∷◌, sum_by, Option, None, Some, Result, Ok, Err, if◌then◌else◌, nat_eq, nat_lt, codes}
+use Rattle.std.specs.Prelude.{ℕ, ◌%◌, ◌^◌, Bool, true, false, ◌&&◌, List, [], ◌∷◌, sum_by, Option, None, Some, Result, Ok, Err, if◌then◌else◌, nat_eq, nat_lt, codes}
 use Rattle.std.specs.List.{starts_with}
 use Rattle.std.specs.Option.{option_and_then, option_map}
 use Rattle.std.specs.Str.{bytes_eq}
-use Rattle.c_lex.specs.declared.token.Token.{Token}
-use Rattle.c_lex.specs.declared.token.TokenKind.{TokenKind}
-use Rattle.c_lex.specs.declared.token.TokenKind.TheVariants.{Word, Integer, Mark}
+use Rattle.hy_bits.specs.declared.scalar.Scalar.{Scalar}
+use Rattle.hy_bits.specs.declared.scalar.Scalar.TheVariants.{B1, S8, U8, S16, U16, S32, U32, S64, U64}
+use Rattle.c_tree.specs.declared.token.Token.{Token}
+use Rattle.c_tree.specs.declared.token.TokenKind.{TokenKind}
+use Rattle.c_tree.specs.declared.token.TokenKind.TheVariants.{Word, Name, TypeName, Integer, Character, Str, Mark, Bound, End}
 use Rattle.c_lex.specs.Lexing.{tokens_of}
 use Rattle.hycc_top.specs.declared.source.Term.{Term}
 use Rattle.hycc_top.specs.declared.source.Term.TheVariants.{A, B, Literal}
@@ -40,24 +42,57 @@ opening tokens = option_and_then (expect (codes "(")) (option_and_then (expect (
 abbrev pub body_opening : List Token → Option (List Token)
 body_opening tokens = option_and_then (expect (codes "return")) (option_and_then (expect (codes "{")) (expect (codes ")") tokens))
 
--- a literal below 2^31
-abbrev pub literal : TokenKind → ℕ → Option Term
-literal Word number = None
-literal Integer number = if nat_lt number (2 ^ 31) then Some (Literal number) else None
-literal Mark number = None
+abbrev pub is_integer : TokenKind → Bool
+is_integer Word = false
+is_integer Name = false
+is_integer TypeName = false
+is_integer Integer = true
+is_integer Character = false
+is_integer Str = false
+is_integer Mark = false
+is_integer Bound = false
+is_integer End = false
+
+abbrev pub is_end : TokenKind → Bool
+is_end Word = false
+is_end Name = false
+is_end TypeName = false
+is_end Integer = false
+is_end Character = false
+is_end Str = false
+is_end Mark = false
+is_end Bound = false
+is_end End = true
+
+-- the type int
+abbrev pub is_int : Scalar → Bool
+is_int B1 = false
+is_int S8 = false
+is_int U8 = false
+is_int S16 = false
+is_int U16 = false
+is_int S32 = true
+is_int U32 = false
+is_int S64 = false
+is_int U64 = false
+
+-- a literal of type int, whose value is below 2^31
+abbrev pub literal : Token → Option Term
+literal token = if is_integer token.kind && is_int token.scalar && nat_lt token.number (2 ^ 31) then Some (Literal token.number) else None
 
 -- one term: the first parameter's name, the second's, or a literal
 abbrev pub term_of : List ℕ → List ℕ → Token → Option Term
 term_of a b token =
     if bytes_eq token.text a then Some A
     else if bytes_eq token.text b then Some B
-    else literal token.kind token.number
+    else literal token
 
--- `}` and nothing more
+-- `}` and the end of the text
 abbrev pub closes : List Token → Bool
 closes [] = false
-closes (token ∷ []) = bytes_eq token.text (codes "}")
-closes (token ∷ next ∷ rest) = false
+closes (token ∷ []) = false
+closes (token ∷ end ∷ []) = bytes_eq token.text (codes "}") && is_end end.kind
+closes (token ∷ next ∷ third ∷ rest) = false
 
 -- the terms of `T + T + .. ; }`
 abbrev pub terms_of : List ℕ → List ℕ → List Token → Option (List Term)

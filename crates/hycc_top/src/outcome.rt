@@ -57,10 +57,10 @@ fn source_sum(alloc: Global, source: &[u8]) -> Result<Option<Sum>, Memory>
         return Ok(None);
     }
     match tokens(alloc, source) {
-        Ok(tokens) => sum_of(alloc, &tokens.list),
+        Ok(tokens) => sum_of(alloc, tokens.as_slice()),
         Err(fault) => match fault.kind {
-            LexKind::BadByte => Ok(None),
             LexKind::Memory => Err(Memory),
+            _ => Ok(None),
         },
     }
 }

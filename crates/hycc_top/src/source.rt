@@ -2,8 +2,8 @@ ghost use Rattle.std.specs.Prelude.{◌≡◌, Some, None, IfOk, MatchOption};
 ghost use Rattle.std.specs.Option.{option_copied, option_map};
 ghost use Rattle.hycc_top.specs.Source.{head_of as head_of_tokens, expect as expect_text, parameter as parameter_with, opening as opening_of, body_opening as body_opening_of, term_of as term_of_token, terms_of, closes as closes_with, sum_of};
 
-use c_lex::{Token, TokenKind};
-use hy_bits::{Memory, Text};
+use c_tree::{Token, TokenKind};
+use hy_bits::{Memory, Scalar, Text};
 use std::alloc::Global;
 
 /// The literals of a source are the numbers below this.
@@ -136,19 +136,22 @@ fn term_of(a: &[u8], b: &[u8], token: &Token) -> Option<Term>
         Some(Term::A)
     } else if token.text.is(b) {
         Some(Term::B)
-    } else if token.kind == TokenKind::Integer && token.number < LITERAL_END {
+    } else if token.kind == TokenKind::Integer
+        && token.scalar == Scalar::S32
+        && token.number < LITERAL_END
+    {
         Some(Term::Literal(token.number as u32))
     } else {
         None
     }
 }
 
-/// Whether these tokens are `}` alone.
+/// Whether these tokens are `}` and the end of the text.
 fn closes(tokens: &[Token]) -> bool
     ensures { result ≡ closes_with tokens.now }
 {
     match tokens {
-        [token] => token.text.is(b"}"),
+        [token, end] => token.text.is(b"}") && end.kind == TokenKind::End,
         _ => false,
     }
 }

@@ -78,6 +78,12 @@ fn sources_are_summed_modulo_2_to_the_32(rt: HostRuntime) -> Result<(), Fail> {
             "{\"INPUT_B\":6}",
             "{\"bound\":0,\"out\":6}\n",
         ),
+        (
+            "#include <stdint.h> // none\n#define MORE + 0x10 /* 16 */ + 010\nunsigned mpc_main(unsigned INPUT_A_x, unsigned INPUT_B_y) { return INPUT_A_x MORE + INPUT_B_y; }",
+            "{\"INPUT_A_x\":1}",
+            "{\"INPUT_B_y\":2}",
+            "{\"bound\":0,\"out\":27}\n",
+        ),
     ] {
         let done = exec(alloc, source, x, y)?;
         assert_eq!(rt; done.code, 0, "{source}");
@@ -92,7 +98,7 @@ fn what_is_not_of_the_form_is_refused(rt: HostRuntime) -> Result<(), Fail> {
     let head = "unsigned mpc_main(unsigned INPUT_A_x, unsigned INPUT_B_y) { return ";
     for term in [
         "INPUT_A_x - INPUT_B_y; }",
-        "07; }",
+        "08; }",
         "2147483648; }",
         "INPUT_A_z; }",
         "; }",

@@ -1,7 +1,0 @@
-use Rattle.std.proofs.Common.{◌≡◌, ◌+◌, drop}
-use Rattle.std.specs.List.{prefix_len}
-use Rattle.c_lex.specs.Lexing.{is_word_byte}
-use Rattle.c_lex.proofs.lexer.word_length.Given as goal
-
-abbrev pub invariant-loop-index : goal.invariant-loop-index
-invariant-loop-index l = prefix_len is_word_byte l.text ≡ l.index + prefix_len is_word_byte (drop l.index l.text)

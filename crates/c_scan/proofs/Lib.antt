@@ -1,0 +1,6 @@
+pub mod Bools
+pub mod Goodness
+pub mod Longest
+pub mod Scanning
+pub mod Standing
+pub mod Values
