@@ -1,0 +1,46 @@
+use Rattle.std.proofs.Common.{arith, sym, ◌∙◌, ◌≤◌, length}
+use Rattle.choice_check.specs.Walks.{IsPath}
+use Rattle.choice_check.proofs.Siblings.{siblings_none, path_shorter, path_more, advance_some, advance_none}
+use Rattle.choice_check.proofs.paths.advance.Goals as goal
+
+pub returns-in-Some-clause-path : goal.returns-in-Some-clause-path
+returns-in-Some-clause-path c =
+    let i = c.loop-number.invariant in
+    let good : IsPath c.args.problem.now c.loop-number.path c.args.depth = rw i.1 c.requires in
+    let within = good.within in
+    let size = good.size in
+    let some = c.loop-number-test.true in
+    let below = i.2 in
+    let allowed = rw c.as_slice-rows.ensures at c.in-Some.ensures.allowed in
+    path_more c.args.problem.now c.loop-number.path _ c.in-Some.choice (path_shorter c.args.problem.now c.loop-number.path _ c.args.depth (omega (arith, below, some)) good) (omega (arith, within, size, below, some)) allowed
+
+pub returns-in-Some-clause-next : goal.returns-in-Some-clause-next
+returns-in-Some-clause-next c =
+    let i = c.loop-number.invariant in
+    let good : IsPath c.args.problem.now c.loop-number.path c.args.depth = rw i.1 c.requires in
+    let within = good.within in
+    let below = i.2 in
+    let inside : c.loop-number.number ≤ length c.loop-number.path = omega (arith, within, below) in
+    let first = rw (c.as_slice-rows.ensures, c.place.ensures.is) at c.in-Some.ensures.some in
+    advance_some c.args.problem.now c.loop-number.path c.args.path.now c.loop-number.number c.args.depth c.in-Some.choice _ c.loop-number-test.true inside i.0 first
+
+pub loop-number-preserved : goal.loop-number-preserved
+loop-number-preserved c =
+    let i = c.loop-number.invariant in
+    let good : IsPath c.args.problem.now c.loop-number.path c.args.depth = rw i.1 c.requires in
+    let within = good.within in
+    let below = i.2 in
+    let inside : c.loop-number.number ≤ length c.loop-number.path = omega (arith, within, below) in
+    let none = rw (c.as_slice-rows.ensures, c.place.ensures.is) at c.in_default.ensures.some in
+    (advance_none c.args.problem.now c.loop-number.path c.loop-number.number _ c.loop-number-test.true inside none ∙ i.0, i.1, omega (arith, below))
+
+pub returns-clause-path : goal.returns-clause-path
+returns-clause-path c =
+    let i = c.loop-number.invariant in
+    let good : IsPath c.args.problem.now c.loop-number.path c.args.depth = rw i.1 c.requires in
+    path_shorter c.args.problem.now c.loop-number.path 0 c.args.depth (omega arith) good
+
+pub returns-clause-next : goal.returns-clause-next
+returns-clause-next c =
+    let end = c.loop-number-test.false in
+    sym (c.loop-number.invariant.0) ∙ siblings_none c.args.problem.now c.loop-number.path c.loop-number.number (omega (arith, end))

@@ -1,0 +1,7 @@
+use Rattle.std.proofs.Common.{◌≡◌, ◌≤◌}
+use Rattle.choice_check.specs.Walks.{siblings}
+use Rattle.choice_check.proofs.paths.advance.Given as goal
+
+-- nothing is due below the dropped choices
+abbrev pub invariant-loop-number : goal.invariant-loop-number
+invariant-loop-number l = (siblings l.problem l.path l.number ≡ siblings l.problem l.fn.path l.depth) × (l.path ≡ l.fn.path) × (l.number ≤ l.depth)

@@ -1,0 +1,18 @@
+//! A checker of the trees that show a least list of choices.
+//!
+//! `check` walks once through a tree's nodes in preorder. The caller's buffer has the path to the
+//! node, which with the allowed choices says all prefixes that are still to come; so it takes no
+//! memory. A tree that passes shows that the choices are the least ones, whoever made it.
+#![tactic(auto)]
+
+mod checks;
+mod closing;
+mod faults;
+mod paths;
+mod walks;
+
+pub use checks::check;
+pub use faults::TreeFault;
+
+#[cfg(test)]
+mod tests;
