@@ -1,0 +1,17 @@
+//! The text of a cost table: one JSON object with the 37 numbers of a table.
+//!
+//! [`table_of`] answers the table, or the first fault. What a text says as JSON is `serde_json`'s
+//! meaning of it; what the value says as a table stands in `specs/Tables.antt`.
+#![tactic(auto)]
+
+mod extras;
+mod fault;
+mod names;
+mod numbers;
+mod tables;
+
+pub use fault::TableFault;
+pub use tables::table_of;
+
+#[cfg(test)]
+mod tests;
