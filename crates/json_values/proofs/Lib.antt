@@ -1,0 +1,4 @@
+pub mod Laws
+mod Members
+pub mod Numbers
+mod Readings

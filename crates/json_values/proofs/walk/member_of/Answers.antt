@@ -1,0 +1,14 @@
+use Rattle.std.proofs.Common.{option_map, sym, ap, ◌∙◌}
+use Rattle.serde_json.specs.View.{view, members_view}
+use Rattle.serde_json.specs.Find.{get_member}
+use Rattle.serde_json.proofs.Views.{view_of_ref, view-lookup}
+use Rattle.json_values.proofs.Members.{get_member-no_text}
+use Rattle.json_values.proofs.walk.member_of.Goals as goal
+
+pub returns-in-Ok : goal.returns-in-Ok
+returns-in-Ok c =
+    let entries = c.args.members.now.entries in
+    view_of_ref c.get.result ∙ ap (option_map view) c.get.ensures.value ∙ view-lookup c.in-Ok.name.now entries ∙ ap (λ name. get_member name (members_view entries)) c.in-Ok.ensures.cases.0
+
+pub returns-in-Err : goal.returns-in-Err
+returns-in-Err c = sym (get_member-no_text c.args.name.now c.args.members.now.entries c.in-Err.ensures.cases.0)

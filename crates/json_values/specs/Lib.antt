@@ -1,0 +1,4 @@
+pub mod File
+pub mod Leaf
+pub mod Meaning
+pub mod Walk
