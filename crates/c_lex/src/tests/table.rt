@@ -65,6 +65,7 @@ intx Int => 1:1 Name intx  1:6 Name Int  1:9 End
 1e-x => BadLiteral 1:1
 1+5 => 1:1 Integer 1 1 S32  1:2 Mark +  1:3 Integer 5 5 S32  1:4 End
 return 18446744073709551616; => BadLiteral 1:8
+unsigned mpc_main(unsigned INPUT_A_x) { return 18446744073709551616; } => BadLiteral 1:48
 a.b => 1:1 Name a  1:2 Mark .  1:3 Name b  1:4 End
 a..b => 1:1 Name a  1:2 Mark .  1:3 Mark .  1:4 Name b  1:5 End
 ..5 => BadLiteral 1:2
@@ -229,4 +230,4 @@ f(){}typedef int T;T => 1:1 Name f  1:2 Mark (  1:3 Mark )  1:4 Mark {  1:5 Mark
 "###;
 
 /// How many lines there are.
-pub const ROWS: u32 = 224;
+pub const ROWS: u32 = 225;
