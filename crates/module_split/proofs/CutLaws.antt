@@ -1,5 +1,5 @@
 -- Laws of the cut: its passes step by step, and that their results are its pieces.
-use Rattle.std.proofs.Common.{◌≡◌, ◌≢◌, ◌⊎◌, inl, inr, ℕ, zero, suc, ◌+◌, ◌-◌, ◌*◌, ◌^◌, ◌<◌, ◌≤◌, Bool, true, false, not, ◌||◌, cond, eqb, List, [], ◌∷◌, ◌++◌, Option, Some, None, get_or, drop, length, map, filter, slice_get, refl, sym, ap, ◌∙◌, subst, arith, append_assoc, length-append, add-one, drop-cons, mul-le-mul_right}
+use Rattle.std.proofs.Common.{◌≡◌, ◌≢◌, ◌⊎◌, inl, inr, ℕ, zero, suc, ◌+◌, ◌-◌, ◌*◌, ◌^◌, ◌<◌, ◌≤◌, Bool, true, false, not, ◌||◌, cond, eqb, List, [], ◌∷◌, ◌++◌, Option, Some, None, is_some, get_or, drop, length, map, filter, slice_get, refl, sym, ap, ◌∙◌, subst, arith, append_assoc, length-append, add-one, drop-cons, mul-le-mul_right}
 use Rattle.std.specs.Prelude.{if◌then◌else◌, unwrap_or}
 use Rattle.std.specs.List.{All, cons_option, flat_map, list_any, filter_map, position, range_with_len}
 use Rattle.std.proofs.lemmas.Bool.{eq-eqb, eqb-true}
@@ -9,10 +9,8 @@ use Rattle.std.proofs.lemmas.List.Quantifiers.{position-Some}
 use Rattle.std.proofs.lemmas.List.Elements.{filter-append, All-filter, All-append}
 use Rattle.std.proofs.lemmas.Grind.{flat_map-append}
 use Rattle.std.proofs.lemmas.List.FromFn.{map-range_with_len_more}
-use Rattle.hy_bits.specs.declared.op.Op.{Op}
-use Rattle.hy_bits.specs.declared.op.Op.TheVariants.{Const}
 use Rattle.word_graph.specs.declared.entry.Entry.{Entry}
-use Rattle.word_graph.specs.Shape.{constant_at, constant_entry, constant_word}
+use Rattle.word_graph.specs.Shape.{constant_entry, constant_word}
 use Rattle.word_graph.specs.declared.entry.Node.{Node}
 use Rattle.module_split.specs.declared.homes.Group.{Group}
 use Rattle.module_split.specs.declared.homes.Home.{Home}
@@ -24,28 +22,19 @@ use Rattle.module_split.proofs.HomeLaws.{length-homes_after}
 use Rattle.module_split.specs.Lists.{at}
 use Rattle.module_split.specs.Cut.{below, crosses_into, different_after, edge_with, edges_to, group_in, ins_of, is_just, is_of, is_result, is_variable, layer_in, module_of, nodes_of, number_in, numbers_of, order_of, same_group, users_of, words_between}
 use Rattle.module_split.specs.Steps.{AreUsers, IsBelow, IsDistinct, and_then, crosses_by, crosses_in, groups_words, is_out, module_number, module_with, places_of_modules}
-use Rattle.module_split.proofs.OrderLaws.{below-more}
-use Rattle.module_split.proofs.UseLaws.{and_then-false, filter_below-low, filter_below-more}
+use Rattle.module_split.proofs.ListLaws.{below-more}
+use Rattle.module_split.proofs.UseLaws.{filter_below-low, filter_below-more}
 
 -- ---- variables
 
-constant_word-none : (op : Op) (n : ℕ) → (op ≡ Const → ⊥) → constant_word op n ≡ None
-constant_word-none Const n h = absurd (h refl)
-constant_word-none _ n h = refl
+-- whether the node at a place is no constant
+is_variable-at : (es : List Entry) (i : ℕ) (d : Entry) → i < length es → not (is_some (constant_word (get_or es i d).op (get_or es i d).number)) ≡ is_variable es i
+is_variable-at es i d within = ap (λ (o : Option ℕ). not (is_some o)) (sym (ap constant_entry (slice_get-get_or es i d within)))
 
-module _ (es : List Entry) (i : ℕ) (d : Entry) (within : i < length es) where
-  constant_here : constant_at es i ≡ constant_word (get_or es i d).op (get_or es i d).number
-  constant_here = ap constant_entry (slice_get-get_or es i d within)
-
-  pub variables-constant : (places : List ℕ) → (get_or es i d).op ≡ Const → places ≡ filter (is_variable es) (below i) → places ≡ filter (is_variable es) (below (i + 1))
-  variables-constant places is inv =
-      let not_here : is_variable es i ≡ false = rw (constant_here, is) refl in
-      inv ∙ sym (filter_below-more (is_variable es) i ∙ ap (λ (b : Bool). and_then (filter (is_variable es) (below i)) b i) not_here ∙ and_then-false (filter (is_variable es) (below i)) i)
-
-  pub variables-other : (places more : List ℕ) → ((get_or es i d).op ≡ Const → ⊥) → places ≡ filter (is_variable es) (below i) → more ≡ places ++ i ∷ [] → more ≡ filter (is_variable es) (below (i + 1))
-  variables-other places more is inv made =
-      let here : is_variable es i ≡ true = rw (constant_here, constant_word-none (get_or es i d).op (get_or es i d).number is) refl in
-      made ∙ ap (λ (ks : List ℕ). ks ++ i ∷ []) inv ∙ sym (filter_below-more (is_variable es) i ∙ ap (λ (b : Bool). and_then (filter (is_variable es) (below i)) b i) here)
+pub variables-more : (es : List Entry) (i : ℕ) (d : Entry) → i < length es → (places : List ℕ) (b : Bool) → b ≡ not (is_some (constant_word (get_or es i d).op (get_or es i d).number)) → places ≡ filter (is_variable es) (below i) →
+    and_then places b i ≡ filter (is_variable es) (below (i + 1))
+variables-more es i d within places b is inv =
+    ap (λ (ks : List ℕ). and_then ks b i) inv ∙ ap (λ (c : Bool). and_then (filter (is_variable es) (below i)) c i) (is ∙ is_variable-at es i d within) ∙ sym (filter_below-more (is_variable es) i)
 
 -- ---- lists joined
 
@@ -170,7 +159,7 @@ edges_to-runs es numbers count to =
 distinct-nil : IsDistinct []
 distinct-nil i j less within = absurd (omega arith)
 
-distinct-append : (xs ys : List ℕ) → IsDistinct xs → IsDistinct ys → ((i j : ℕ) → i < length xs → j < length ys → get_or xs i 0 ≢ get_or ys j 0) → IsDistinct (xs ++ ys)
+pub distinct-append : (xs ys : List ℕ) → IsDistinct xs → IsDistinct ys → ((i j : ℕ) → i < length xs → j < length ys → get_or xs i 0 ≢ get_or ys j 0) → IsDistinct (xs ++ ys)
 distinct-append xs ys dx dy apart_ i j less within same =
     let long : length (xs ++ ys) ≡ length xs + length ys = length-append xs ys in
     elim (split_at j (length xs)) [
@@ -307,14 +296,17 @@ map_below-more f n = map-range_with_len_more f 0 n n (omega arith)
 
 -- ---- where nodes belong
 
-length-homes : (layers : ℕ) (es : List Entry) → length (homes_of layers es) ≡ length es
+pub length-homes : (layers : ℕ) (es : List Entry) → length (homes_of layers es) ≡ length es
 length-homes layers es = omega (arith, length-homes_after layers [] es)
+
+pub length-groups : (es : List Entry) (layers : ℕ) (homes : List Home) (groups : List (Option Group)) → homes ≡ homes_of layers es → groups ≡ map (group_of layers) homes → length groups ≡ length es
+length-groups es layers homes groups are made = ap length made ∙ length-map homes (group_of layers) ∙ ap length are ∙ length-homes layers es
 
 pub IsBelonging-made : (es : List Entry) (layers : ℕ) (groups : List (Option Group)) (b : Belonging) → length es ≤ 2 ^ 20 → layers ≤ 64 → b.homes.items ≡ homes_of layers es →
     groups ≡ map (group_of layers) b.homes.items → b.order.keys ≡ order_of layers groups → b.numbers.items ≡ numbers_of b.order.keys groups → IsBelonging es layers b
 IsBelonging-made es layers groups b limit few homes made order numbers =
     let groups_are : groups ≡ groups_of layers es = made ∙ ap (map (group_of layers)) homes in
-    let long : length groups ≡ length es = ap length groups_are ∙ length-map (homes_of layers es) (group_of layers) ∙ length-homes layers es in
+    let long : length groups ≡ length es = length-groups es layers b.homes.items groups homes made in
     let product : layers * length groups ≤ 64 * length groups = mul-le-mul_right (length groups) few in
     record {
       homes = homes;

@@ -1,5 +1,5 @@
 pub mod ListLaws
 pub mod HomeLaws
-pub mod OrderLaws
 pub mod UseLaws
+pub mod OrderLaws
 pub mod CutLaws

@@ -15,7 +15,7 @@ use Rattle.word_graph.proofs.EntryLaws.{taken_by-earlier}
 use Rattle.module_split.specs.Lists.{at, ends_with, with_last, Puts}
 use Rattle.module_split.specs.Cut.{below, entry_takes, is_just, is_of}
 use Rattle.module_split.specs.Steps.{AddsCrossing, AddsUser, IsDistinct, and_then, crosses_by, crosses_in, number_at, other_than}
-use Rattle.module_split.proofs.OrderLaws.{below-more}
+use Rattle.module_split.proofs.ListLaws.{below-more}
 
 -- ---- last numbers
 
@@ -185,7 +185,7 @@ ends_with-contains xs n e = let p = ends_with-get xs n e in (length xs - 1, omeg
     get_or-same (y ∷ ys) zero m h q = q
     get_or-same (y ∷ ys) (suc k) m h q = get_or-same ys k m (omega arith) q
 
-Contains-filter : (p : ℕ → Bool) (xs : List ℕ) (x : ℕ) → Contains (filter p xs) x → Contains xs x
+pub Contains-filter : (p : ℕ → Bool) (xs : List ℕ) (x : ℕ) → Contains (filter p xs) x → Contains xs x
 Contains-filter p [] x (k, h, e) = absurd (omega arith)
 Contains-filter p (y ∷ ys) x c = by (p y) (Contains-filter p ys x) c
   where

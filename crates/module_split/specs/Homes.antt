@@ -89,3 +89,8 @@ abbrev pub IsLow : ℕ → Home → Type 0
 IsLow layers Input = Unit {0}
 IsLow layers Constant = Unit {0}
 IsLow layers (Inside group) = group.layer < layers
+
+-- the same of the group of a node that has one
+abbrev pub IsLowGroup : ℕ → Option Group → Type 0
+IsLowGroup layers None = Unit {0}
+IsLowGroup layers (Some group) = group.layer < layers

@@ -5,6 +5,7 @@ use Rattle.word_graph.specs.declared.entry.Entry.{Entry}
 use Rattle.word_graph.specs.Term.{taken_by}
 use Rattle.module_split.specs.Lists.{at, ends_with}
 use Rattle.module_split.specs.Cut.{below, edge_with, is_just, is_of, nodes_of, region_in, users_of}
+use Rattle.module_split.specs.declared.homes.Group.{Group}
 use Rattle.module_split.specs.declared.homes.Home.{Home}
 use Rattle.module_split.specs.declared.module.Module.{Module}
 use Rattle.module_split.specs.declared.module.EdgeWords.{EdgeWords}
@@ -13,6 +14,15 @@ use Rattle.module_split.specs.Homes.{home_at, is_arithmetic}
 -- the number of the module of the node at a place
 abbrev pub number_at : List (Option ℕ) → ℕ → Option ℕ
 number_at numbers k = get_or numbers k None
+
+-- the group of the node at a place
+abbrev pub group_at : List (Option Group) → ℕ → Option Group
+group_at groups k = get_or groups k None
+
+-- the layer of a group, if there is one
+abbrev pub layer_number : Option Group → Option ℕ
+layer_number None = None
+layer_number (Some group) = Some group.layer
 
 -- the number, if there is one, is below this
 abbrev pub IsBelow : ℕ → Option ℕ → Type 0

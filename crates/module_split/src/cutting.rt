@@ -1,7 +1,7 @@
 //! The cut of a graph.
-ghost use Rattle.std.specs.Prelude.{◌≡◌, ◌<◌, ◌≤◌, ◌^◌, ◌++◌, [], ℕ, false, not, length, filter, get_or, map, slice_get, IfOk, OnOk};
+ghost use Rattle.std.specs.Prelude.{◌≡◌, ◌<◌, ◌≤◌, ◌^◌, ◌++◌, [], ℕ, false, is_some, not, length, filter, get_or, map, slice_get, IfOk, OnOk};
 ghost use Rattle.std.specs.List.{All, flat_map, list_all, list_any};
-ghost use Rattle.word_graph.specs.Shape.{IsGraph};
+ghost use Rattle.word_graph.specs.Shape.{IsGraph, constant_word};
 ghost use Rattle.module_split.specs.Lists.{at};
 ghost use Rattle.module_split.specs.Homes.{home_at, is_arithmetic};
 ghost use Rattle.module_split.specs.Cut.{below, crosses_into, cut_of, edge_with, edges_to, is_of, is_result, is_variable, ins_of, layer_in, module_of, nodes_of, region_in};
@@ -18,6 +18,16 @@ use indexmap::IndexSet;
 use std::alloc::Global;
 use word_graph::{Entry, Graph, Node};
 
+/// Whether a node is no constant.
+fn is_variable(entry: &Entry) -> bool
+    ensures { result ≡ not (is_some (constant_word entry.now.op entry.now.number)) }
+{
+    match entry.op {
+        Op::Const => false,
+        _ => true,
+    }
+}
+
 /// The places of the nodes that are no constants, ascending.
 fn variables(alloc: Global, entries: &[Entry]) -> Result<Vec<u32>, Memory>
     requires { length entries.now ≤ 2 ^ 20 }
@@ -25,9 +35,8 @@ fn variables(alloc: Global, entries: &[Entry]) -> Result<Vec<u32>, Memory>
 {
     let mut places = Vec::new(alloc);
     for (place, entry) in entries.iter().enumerate() {
-        match entry.op {
-            Op::Const => {}
-            _ => places.push(place as u32)?,
+        if is_variable(entry) {
+            places.push(place as u32)?;
         }
     }
     Ok(places)
@@ -377,7 +386,7 @@ fn edges_of(
 }
 
 /// The modules of a graph and the edges between them, where these nodes are the results and there are at most so many
-/// layers. Only memory can fail. Time grows with the number of nodes, times the number of layers at the most.
+/// layers. Only memory can fail. Time grows with the number of nodes.
 pub fn split(alloc: Global, graph: &Graph, results: &[Node], layers: u32) -> Result<Modules, Memory>
     requires stand { All (λ node. node.index < length graph.now) results.now }
     requires some { 0 < layers }

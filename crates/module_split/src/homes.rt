@@ -1,7 +1,7 @@
 //! Where each node belongs: its class, its layer and its group.
 ghost use Rattle.std.specs.Prelude.{◌≡◌, ◌<◌, ◌≤◌, map, IfOk};
 ghost use Rattle.std.specs.List.{All};
-ghost use Rattle.module_split.specs.Homes.{IsLow, group_of, home_at, home_of, homes_of, is_arithmetic, is_ring, layer_of, layer_over};
+ghost use Rattle.module_split.specs.Homes.{IsLow, IsLowGroup, group_of, home_at, home_of, homes_of, is_arithmetic, is_ring, layer_of, layer_over};
 
 use hy_bits::{Memory, Op};
 use std::alloc::Global;
@@ -115,7 +115,8 @@ fn home_of(layers: u32, homes: &[Home], entry: &Entry) -> Home
 pub fn homes_of(alloc: Global, layers: u32, entries: &[Entry]) -> Result<Vec<Home>, Memory>
     requires some { 0 < layers }
     requires few { layers ≤ 64 }
-    ensures { IfOk result (λ homes. homes.items ≡ homes_of layers entries.now) }
+    ensures homes { IfOk result (λ homes. homes.items ≡ homes_of layers entries.now) }
+    ensures low { IfOk result (λ homes. All (IsLow layers) homes.items) }
 {
     let mut homes = Vec::new(alloc);
     for entry in entries {
@@ -127,8 +128,10 @@ pub fn homes_of(alloc: Global, layers: u32, entries: &[Entry]) -> Result<Vec<Hom
 
 /// The group of a node of this home.
 fn group_of(layers: u32, home: Home) -> Option<Group>
-    requires { 0 < layers }
-    ensures { result ≡ group_of layers home }
+    requires some { 0 < layers }
+    requires low { IsLow layers home }
+    ensures value { result ≡ group_of layers home }
+    ensures low { IsLowGroup layers result }
 {
     match home {
         Home::Input | Home::Constant => None,
@@ -148,8 +151,10 @@ fn group_of(layers: u32, home: Home) -> Option<Group>
 
 /// The groups of all nodes, by their homes.
 pub fn groups_of(alloc: Global, layers: u32, homes: &[Home]) -> Result<Vec<Option<Group>>, Memory>
-    requires { 0 < layers }
-    ensures { IfOk result (λ groups. groups.items ≡ map (group_of layers) homes.now) }
+    requires some { 0 < layers }
+    requires low { All (IsLow layers) homes.now }
+    ensures groups { IfOk result (λ groups. groups.items ≡ map (group_of layers) homes.now) }
+    ensures low { IfOk result (λ groups. All (IsLowGroup layers) groups.items) }
 {
     let mut groups = Vec::with_capacity(alloc, homes.len())?;
     for home in homes {

@@ -20,7 +20,8 @@ use Rattle.word_graph.proofs.EntryLaws.{AreEntries-at, constant_at-word, width_a
 use Rattle.word_graph.proofs.RunLaws.{Carries-width, carries, value-constant, value-entry}
 use Rattle.ring_net.specs.declared.ring.RingGate.{RingGate}
 use Rattle.ring_net.specs.Ring.{AreGates, FitsAfter, FitsArg, FitsCut, FitsOperation, IsRing, Ring, arg_word, gate_word, inputs_of, outputs, run}
-use Rattle.ring_net.specs.Part.{IsDistinct, IsOver, IsPart, IsRingOperation, arg_for, arg_of, gate_at, gate_for, gate_of_entry, second_for, variable_of}
+use Rattle.module_split.specs.Steps.{IsDistinct}
+use Rattle.ring_net.specs.Part.{IsOver, IsPart, IsRingOperation, arg_for, arg_of, gate_at, gate_for, gate_of_entry, second_for, variable_of}
 use Rattle.ring_net.proofs.RingLaws.{AreGates-push, gate_widths, run-push}
 
 -- ---- elements of lists

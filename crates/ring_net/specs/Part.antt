@@ -1,16 +1,32 @@
 -- The part of a graph that a ring circuit computes.
-use Rattle.std.specs.Prelude.{◌≡◌, ◌≢◌, ◌==◌, ℕ, ◌^◌, ◌<◌, ◌≤◌, List, [], ◌∷◌, ◌++◌, Option, Some, None, get_or, take, length, slice_get, unwrap_or}
+use Rattle.std.specs.Prelude.{◌≡◌, ◌==◌, ℕ, ◌^◌, ◌<◌, ◌≤◌, true, List, [], ◌∷◌, ◌++◌, Option, Some, None, get_or, take, length, slice_get, unwrap_or}
 use Rattle.std.specs.List.{All, Contains, position}
 use Rattle.hy_bits.specs.declared.op.Op.{Op}
 use Rattle.hy_bits.specs.declared.op.Op.TheVariants.{Add, Sub, Mul, Neg, Trunc}
 use Rattle.hy_bits.specs.declared.width.Width.TheVariants.{W1}
-use Rattle.hy_bits.specs.Words.{bits}
 use Rattle.word_graph.specs.declared.entry.Entry.{Entry}
+use Rattle.word_graph.specs.declared.entry.Node.{Node}
+use Rattle.hy_bits.specs.Words.{bits}
 use Rattle.word_graph.specs.Term.{arity}
 use Rattle.word_graph.specs.Shape.{constant_at}
+use Rattle.module_split.specs.declared.module.Module.{Module}
+use Rattle.module_split.specs.Cut.{cut_of}
+use Rattle.module_split.specs.Steps.{IsDistinct}
 use Rattle.ring_net.specs.declared.ring.RingArg.{RingArg}
 use Rattle.ring_net.specs.declared.ring.RingArg.TheVariants.{Var, Number}
 use Rattle.ring_net.specs.declared.ring.RingGate.{RingGate}
+
+-- the lists are the nodes, the ins and the outs of one module of the arithmetic class, where the graph is cut for some
+-- results into at most some number of layers
+pub record IsRingModule (es : List Entry) (nodes ins outs : List ℕ) : Type 0 where
+  pub results : List Node
+  pub layers : ℕ
+  pub part : Module
+  pub cut : Contains (cut_of es results layers).list part
+  pub ring : part.ring ≡ true
+  pub same_nodes : part.nodes ≡ nodes
+  pub same_ins : part.ins ≡ ins
+  pub same_outs : part.outs ≡ outs
 
 -- sums, differences, products, negatives and cuts
 abbrev pub IsRingOperation : Op → Type 0
@@ -27,11 +43,7 @@ pub record IsOver (es : List Entry) (places : List ℕ) (e : Entry) : Type 0 whe
   pub wide : 8 ≤ bits e.width
   pub known : (k : ℕ) → k < arity e.op → constant_at es (get_or e.args k 0) ≡ None → Contains places (get_or e.args k 0)
 
--- no two are equal
-abbrev pub IsDistinct : List ℕ → Type 0
-IsDistinct ks = (i j : ℕ) → i < j → j < length ks → get_or ks i 0 ≢ get_or ks j 0
-
--- the places of the graph make a part: `nodes` are over constants, `ins` and earlier ones of them, all of these places
+-- the places of the graph make a part, as those of each module of the arithmetic class do: `nodes` are over constants, `ins` and earlier ones of them, all of these places
 -- differ and stand in the graph, the outputs are among them, and there are not too many
 pub record IsPart (es : List Entry) (nodes ins outs : List ℕ) : Type 0 where
   pub over : (i : ℕ) (e : Entry) → i < length nodes → slice_get es (get_or nodes i 0) ≡ Some e → IsOver es (ins ++ take i nodes) e

@@ -3,7 +3,7 @@
 //! | definitions | of |
 //! |---|---|
 //! | `specs/Ring.antt` | ring circuits: which lists of gates are circuits, what they compute, products and depths |
-//! | `specs/Part.antt` | the part of a graph that a ring circuit computes, and its gates |
+//! | `specs/Part.antt` | which parts of a graph a ring circuit computes, and its gates |
 #![tactic(auto)]
 
 mod part;

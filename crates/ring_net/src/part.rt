@@ -4,7 +4,8 @@ ghost use Rattle.std.specs.List.{All};
 ghost use Rattle.word_graph.specs.Term.{width_at};
 ghost use Rattle.word_graph.specs.Meaning.{InputsFit, value, word_at, words};
 ghost use Rattle.ring_net.specs.Ring.{outputs};
-ghost use Rattle.ring_net.specs.Part.{IsDistinct, IsPart, arg_of, gate_at, gate_for, variable_of};
+ghost use Rattle.module_split.specs.Steps.{IsDistinct};
+ghost use Rattle.ring_net.specs.Part.{IsPart, IsRingModule, arg_of, gate_at, gate_for, variable_of};
 
 use crate::ring::{RingArg, RingGate, RingNet};
 use hy_bits::{Memory, Op, Width};
@@ -108,9 +109,8 @@ fn variables_of(alloc: Global, places: &IndexSet<u32>, nodes: &[u32]) -> Result<
     Ok(variables)
 }
 
-/// The circuit of the part of a graph that has these nodes, uses the nodes `ins` of outside, and gives the nodes `outs`:
-/// one gate for each node, in order, over the words of `ins`. Only memory can fail. Time grows with the number of nodes.
-pub fn ring_of(
+/// The circuit of a part of a graph.
+fn ring_of_part(
     alloc: Global,
     graph: &Graph,
     nodes: &[u32],
@@ -132,4 +132,25 @@ pub fn ring_of(
     let gates = gates_of(alloc, graph, &places, nodes)?;
     let variables = variables_of(alloc, &places, outs)?;
     Ok(RingNet::new(widths, gates, variables))
+}
+
+/// The circuit of a module of the arithmetic class, which has these nodes, uses the nodes `ins` of outside, and gives the
+/// nodes `outs`: one gate for each node, in order, over the words of `ins`. Only memory can fail. Time grows with the number
+/// of nodes.
+pub fn ring_of(
+    alloc: Global,
+    graph: &Graph,
+    nodes: &[u32],
+    ins: &[u32],
+    outs: &[u32],
+) -> Result<RingNet, Memory>
+    requires { IsRingModule graph.now nodes.now ins.now outs.now }
+    ensures ins { IfOk result (λ r. r.ins ≡ map (width_at graph.now) ins.now) }
+    ensures gates { IfOk result (λ r. r.gates ≡ map (gate_at graph.now (ins.now ++ nodes.now)) nodes.now) }
+
+    // Where the inputs of the graph fit: over the words of the nodes `ins`, the outputs are those of the nodes `outs`.
+    ensures values { IfOk result (λ r. (inputs : List ℕ) → InputsFit graph.now inputs → outputs r (map (value graph.now inputs) ins.now) ≡ map (word_at (words graph.now inputs)) outs.now) }
+{
+    let _size = graph.entries().len();
+    ring_of_part(alloc, graph, nodes, ins, outs)
 }

@@ -1,8 +1,9 @@
 use crate::{RingArg, RingGate, RingNet, ring_of};
 use hy_bits::{Memory, Op, Width};
+use module_split::split;
 use std::alloc::Global;
 use std::test::Fail;
-use word_graph::{Entry, Graph, GraphFault};
+use word_graph::{Entry, Graph, GraphFault, Node};
 
 const WORD: Width = Width::W32;
 
@@ -76,8 +77,8 @@ fn products_of_two_variables_are_counted(rt: HostRuntime) -> Result<(), Fail> {
     Ok(())
 }
 
-/// The difference of two inputs, seven times.
-const ENTRIES: [Entry; 5] = [
+/// The difference of two inputs, seven times, and a bitwise And of that with the first input.
+const ENTRIES: [Entry; 6] = [
     Entry {
         op: Op::In,
         width: WORD,
@@ -102,7 +103,7 @@ const ENTRIES: [Entry; 5] = [
     Entry {
         op: Op::Sub,
         width: WORD,
-        args: [0, 1, 0],
+        args: [1, 0, 0],
         number: 0,
         region: 2,
     },
@@ -113,10 +114,17 @@ const ENTRIES: [Entry; 5] = [
         number: 0,
         region: 2,
     },
+    Entry {
+        op: Op::And,
+        width: WORD,
+        args: [4, 0, 0],
+        number: 0,
+        region: 2,
+    },
 ];
 
-/// The gates of the last two, where the inputs come the other way round.
-const GATES_OF_PART: [RingGate; 2] = [
+/// The gates of the difference and the product.
+const GATES_OF_MODULE: [RingGate; 2] = [
     RingGate {
         op: Op::Sub,
         width: WORD,
@@ -130,12 +138,20 @@ const GATES_OF_PART: [RingGate; 2] = [
 ];
 
 #[test]
-fn a_part_has_one_gate_for_each_node(rt: HostRuntime) -> Result<(), Fail> {
+fn a_module_has_one_gate_for_each_node(rt: HostRuntime) -> Result<(), Fail> {
     let entries = ENTRIES.to_vec(rt.alloc())?;
     let graph = Graph::of(rt.alloc(), entries)?;
-    let net = ring_of(rt.alloc(), &graph, &[3, 4], &[1, 0], &[4, 0])?;
+    let modules = split(rt.alloc(), &graph, &[Node { index: 5 }], 64)?;
+    let list = modules.list();
+    assert_eq!(rt; list.len(), 2);
+    let module = &list[0];
+    assert!(rt; module.ring);
+    let nodes = module.nodes.as_slice();
+    let ins = module.ins.as_slice();
+    let outs = module.outs.as_slice();
+    let net = ring_of(rt.alloc(), &graph, nodes, ins, outs)?;
     assert!(rt; net.ins() == [WORD; 2].as_slice());
-    assert!(rt; net.gates() == GATES_OF_PART.as_slice());
-    assert!(rt; net.outs() == [3, 1].as_slice());
+    assert!(rt; net.gates() == GATES_OF_MODULE.as_slice());
+    assert!(rt; net.outs() == [3].as_slice());
     Ok(())
 }

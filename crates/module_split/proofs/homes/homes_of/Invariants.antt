@@ -6,5 +6,5 @@ use Rattle.module_split.proofs.homes.homes_of.Given as goal
 abbrev pub invariant-loop-entry : goal.invariant-loop-entry
 invariant-loop-entry l = record {
   value : l.homes.items ≡ homes_of l.layers (take l.entry-index l.entries);
-  low : All (IsLow 64) l.homes.items;
+  low : All (IsLow l.layers) l.homes.items;
 }
