@@ -1,4 +1,8 @@
+mod Extras
+mod Induction
 pub mod Laws
+pub mod Making
 mod Members
 pub mod Numbers
 mod Readings
+mod Sets

@@ -1,9 +1,9 @@
 -- A number is read exactly where its scalar holds it, and its word is read as the number.
-use Rattle.std.proofs.Common.{◌≡◌, ℕ, ℤ, pos, negsuc, List, [], ◌∷◌, Option, Some, None, option_and_then, Ok, refl, sym, ap, ◌∙◌, arith, rules}
+use Rattle.std.proofs.Common.{◌≡◌, ℕ, ◌-◌, ℤ, pos, negsuc, List, [], ◌∷◌, Bool, true, false, if◌then◌else◌, Option, Some, None, option_and_then, Ok, refl, sym, ap, ◌∙◌, arith, rules}
 use Rattle.hy_bits.specs.declared.scalar.Scalar.{Scalar}
 use Rattle.hy_bits.specs.declared.scalar.Scalar.TheVariants.{B1, S8, U8, S16, U16, S32, U32, S64, U64}
-use Rattle.hy_bits.specs.Scalar.{scalar_width}
-use Rattle.hy_bits.specs.Words.{IsWord}
+use Rattle.hy_bits.specs.Scalar.{scalar_width, is_signed}
+use Rattle.hy_bits.specs.Words.{IsWord, modulus, is_negative}
 use Rattle.hy_bits.specs.declared.shape.Shape.TheVariants as V
 use Rattle.serde_json.specs.Data.{Data, Num}
 use Rattle.serde_json.specs.Find.{as_number, as_integer}
@@ -38,6 +38,47 @@ word_gives U64 (negsuc n) word e = search (rules, arith)
 -- a scalar's words are the one word that is read as the whole number
 abbrev pub IsNumberOf : Scalar → Option ℤ → List ℕ → Type 0
 IsNumberOf scalar whole words = (word : ℕ) × (words ≡ word ∷ []) × IsWord (scalar_width scalar) word × (whole ≡ Some (number_of scalar word))
+
+-- ---- the way back
+
+from_signed : (scalar : Scalar) (word : ℕ) (below_zero : Bool) → is_signed scalar ≡ true → IsWord (scalar_width scalar) word → is_negative (modulus (scalar_width scalar)) word ≡ below_zero
+    → word_of scalar (if below_zero then negsuc (modulus (scalar_width scalar) - 1 - word) else pos word) ≡ Some word
+from_signed S8 word true signed fits is = search (rules, arith)
+from_signed S8 word false signed fits is = search (rules, arith)
+from_signed S16 word true signed fits is = search (rules, arith)
+from_signed S16 word false signed fits is = search (rules, arith)
+from_signed S32 word true signed fits is = search (rules, arith)
+from_signed S32 word false signed fits is = search (rules, arith)
+from_signed S64 word true signed fits is = search (rules, arith)
+from_signed S64 word false signed fits is = search (rules, arith)
+from_signed B1 word below_zero signed fits is = absurd (cc)
+from_signed U8 word below_zero signed fits is = absurd (cc)
+from_signed U16 word below_zero signed fits is = absurd (cc)
+from_signed U32 word below_zero signed fits is = absurd (cc)
+from_signed U64 word below_zero signed fits is = absurd (cc)
+
+-- the number that a scalar's word is read as has that word
+pub word_from : (scalar : Scalar) (word : ℕ) → IsWord (scalar_width scalar) word → word_of scalar (number_of scalar word) ≡ Some word
+word_from B1 word fits = search (rules, arith)
+word_from U8 word fits = search (rules, arith)
+word_from U16 word fits = search (rules, arith)
+word_from U32 word fits = search (rules, arith)
+word_from U64 word fits = search (rules, arith)
+word_from S8 word fits = from_signed S8 word (is_negative (modulus (scalar_width S8)) word) refl fits refl
+word_from S16 word fits = from_signed S16 word (is_negative (modulus (scalar_width S16)) word) refl fits refl
+word_from S32 word fits = from_signed S32 word (is_negative (modulus (scalar_width S32)) word) refl fits refl
+word_from S64 word fits = from_signed S64 word (is_negative (modulus (scalar_width S64)) word) refl fits refl
+
+scalar_reads_found : (scalar : Scalar) (found : Option Num) (words : List ℕ) → IsNumberOf scalar (option_and_then as_integer found) words → scalar_words scalar found ≡ Ok words
+scalar_reads_found scalar None words is = absurd (cc (is.3))
+scalar_reads_found scalar (Some number) words is =
+    ap (λ whole. one_word (whole_in scalar whole)) is.3 ∙ ap (λ word. one_word (held word)) (word_from scalar is.0 is.2) ∙ ap Ok (sym is.1)
+
+-- a number that the scalar holds is read
+pub scalar_reads : (scalar : Scalar) (value : Data) (words : List ℕ) → IsNumber scalar value words → words_at (V.Scalar scalar) value ≡ Ok words
+scalar_reads scalar value words is = words_at_Scalar scalar value ∙ scalar_reads_found scalar (as_number value) words (is.word, is.one, is.fits, is.whole)
+
+-- ---- and there
 
 scalar_gives_word : (scalar : Scalar) (number : ℤ) (words : List ℕ) (found : Option ℕ) → word_of scalar number ≡ found → one_word (held found) ≡ Ok words → IsNumberOf scalar (Some number) words
 scalar_gives_word scalar number words None is e = absurd (cc)

@@ -1,6 +1,8 @@
 -- The words that a JSON value gives to a shape, or the first fault, by a walk over the shape: elements from the first on,
 -- fields in order, and what a struct has beyond its fields after them.
 use Rattle.std.specs.Prelude.{◌≡◌, ℕ, suc, ◌==◌, ◌||◌, ◌++◌, List, [], ◌∷◌, Bool, false, Option, Some, None, Result, Ok, Err, if◌then◌else◌, codes, decimal, map, ⊤}
+use Rattle.std.specs.Cmp.Lexicographic.{slice_cmp}
+use Rattle.std.specs.Ordering.{is_lt, nat_cmp}
 use Rattle.std.specs.Str.{bytes_eq}
 use Rattle.hy_bits.specs.declared.scalar.Scalar.{Scalar}
 use Rattle.hy_bits.specs.declared.shape.Shape.{Shape}
@@ -88,10 +90,18 @@ abbrev pub is_among : List ℕ → List (List ℕ) → Bool
 is_among name [] = false
 is_among name (other ∷ others) = bytes_eq other name || is_among name others
 
--- the first member, in the order of the bytes of the names, that is none of these
+-- of two names the one that is less by bytes
+abbrev pub lesser : List ℕ → List ℕ → List ℕ
+lesser a b = if is_lt (slice_cmp nat_cmp b a) then b else a
+
+abbrev pub least : List ℕ → Option (List ℕ) → List ℕ
+least name None = name
+least name (Some other) = lesser name other
+
+-- of the members that have none of these names, the least name by bytes
 abbrev pub extra : List (List ℕ) → Members → Option (List ℕ)
 extra names no_members = None
-extra names (member name value members) = if is_among name names then extra names members else Some name
+extra names (member name value rest) = if is_among name names then extra names rest else Some (least name (extra names rest))
 
 abbrev pub no_extra : Option (List ℕ) → Reading
 no_extra None = Ok []

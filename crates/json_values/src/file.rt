@@ -2,26 +2,50 @@ ghost use Rattle.std.specs.Prelude.{◌≡◌, ◌≢◌, ℕ, ◌++◌, List, [
 ghost use Rattle.serde_json.specs.View.{members_view};
 ghost use Rattle.serde_json.specs.Errors.{IsMemory};
 ghost use Rattle.json_values.specs.declared.fault.InputKind.TheVariants.{Json, Memory as WantOfMemory};
-ghost use Rattle.json_values.specs.Walk.{Reading, Leaves, IsStop, onto, under, fault_at, extra as extra_of, is_among, no_extra};
-ghost use Rattle.json_values.specs.Meaning.{IsText};
+ghost use Rattle.json_values.specs.Walk.{Reading, Leaves, IsStop, onto, under, fault_at, extra as extra_of, no_extra};
+ghost use Rattle.json_values.specs.Names.{IsSetOf};
+ghost use Rattle.json_values.specs.Meaning.{IsText, AreTexts, IsFirstFault};
 ghost use Rattle.json_values.specs.File.{Tells, object_reading, members_of_text, file_words as words_of_file, port_words as words_of_port, own_port as words_of_own, ports_words as words_of_ports, names_of_role, own_words, all_words as words_of_all, both_words, in_file};
 
 use crate::fault::{InputFault, InputKind, Stop};
-use crate::walk::{extra_stop, fault, member_words, stop_under};
+use crate::walk::{extra_member, extra_stop, fault, member_words, stop_under};
 use hy_bits::{Inputs, Memory, Port, Role, Text};
 use serde_json::{Category, Error, Map, Value};
 use std::alloc::Global;
+use std::collections::BTreeSet;
 
 /// The words of all ports, from the texts of both parties, or the first fault: any of A comes before any of B. It takes
-/// time linear in the texts, but for the ports of a party and the fields of a struct, among which each member is looked for.
+/// time linear in the texts, but for the look-up of names: n ports or fields take n log n comparisons.
+#[tactic(auto, using(crate::proofs::Laws::texts_give))]
 pub fn inputs_of(alloc: Global, a: &[u8], b: &[u8], ports: &[Port]) -> Result<Inputs, InputFault>
-    ensures { Tells result (both_words ports.now a.now b.now) }
+    // The words, or the first fault.
+    ensures exact { Tells result (both_words ports.now a.now b.now) }
+
+    // What is read is what the texts say.
+    ensures says { IfOk result (AreTexts ports.now a.now b.now) }
+
+    // A fault is the first of A's text, or A's text has none and it is the first of B's.
+    ensures first { IfErr result (λ fault. fault.fault ≢ WantOfMemory → IsFirstFault ports.now a.now b.now fault) }
+
+    // Texts that say words have no fault: only memory can be wanting.
+    ensures only { IfErr result (λ fault. fault.fault ≢ WantOfMemory → (words : List ℕ) → AreTexts ports.now a.now b.now words → ⊥) }
+{
+    match read_both(alloc, a, b, ports) {
+        Ok(words) => Ok(Inputs::new(words)),
+        Err(fault) => Err(fault),
+    }
+}
+
+/// The words of all ports, in order: first each text by itself, then port after port.
+fn read_both(alloc: Global, a: &[u8], b: &[u8], ports: &[Port]) -> Result<Vec<u64>, InputFault>
+    ensures words { IfOk result (λ words. both_words ports.now a.now b.now ≡ Ok words.items) }
+    ensures fault { IfErr result (λ fault. fault.fault ≢ WantOfMemory → both_words ports.now a.now b.now ≡ Err fault) }
 {
     let a = read(alloc, a, Role::P0, ports)?;
     let b = read(alloc, b, Role::P1, ports)?;
     let mut words = Vec::new(alloc);
     match all_words(alloc, ports, &a.members, &b.members, &mut words) {
-        Ok(()) => Ok(Inputs::new(words)),
+        Ok(()) => Ok(words),
         Err(stop) => Err(fault_of(alloc, Role::P0, stop)),
     }
 }
@@ -203,7 +227,7 @@ fn port_words(
     }
 }
 
-/// Stops at the first member that is none of the party's ports.
+/// Stops at the least member by bytes that is none of the party's ports.
 fn no_extra_port(
     alloc: Global,
     role: Role,
@@ -212,32 +236,22 @@ fn no_extra_port(
 ) -> Result<(), Stop>
     ensures { (words : List ℕ) → Leaves words result (onto words (no_extra (extra_of (names_of_role role ports.now) (members_view members.now.entries)))) }
 {
-    match extra_member(role, ports, members) {
+    let names = port_names(alloc, role, ports)?;
+    match extra_member(&names, members) {
         Some(name) => Err(extra_stop(alloc, name)),
         None => Ok(()),
     }
 }
 
-/// The first name of a member that is none of the party's ports.
-fn extra_member<'a>(role: Role, ports: &[Port], members: &'a Map<String, Value>) -> Option<&'a [u8]>
-    ensures { option_map (λ name. name.now) result ≡ extra_of (names_of_role role ports.now) (members_view members.now.entries) }
+/// The names of the party's ports.
+fn port_names(alloc: Global, role: Role, ports: &[Port]) -> Result<BTreeSet<&[u8]>, Memory>
+    ensures { IfOk result (IsSetOf (names_of_role role ports.now)) }
 {
-    for (name, _) in members.iter() {
-        if !is_port(role, ports, name.as_bytes()) {
-            return Some(name.as_bytes());
-        }
-    }
-    None
-}
-
-/// Whether a port of the party has this name.
-fn is_port(role: Role, ports: &[Port], name: &[u8]) -> bool
-    ensures { result ≡ is_among name.now (names_of_role role ports.now) }
-{
+    let mut names = BTreeSet::new(alloc);
     for port in ports {
-        if port.role == role && port.name.is(name) {
-            return true;
+        if port.role == role {
+            names.insert(port.name.as_bytes())?;
         }
     }
-    false
+    Ok(names)
 }

@@ -42,7 +42,7 @@ fn word_in(scalar: Scalar, number: i128) -> Option<u64>
 }
 
 /// The words of a width are the numbers below this.
-fn words_end(width: Width) -> i128
+pub fn words_end(width: Width) -> i128
     ensures { result ≡ pos (modulus width) }
 {
     match width {

@@ -1,4 +1,5 @@
-//! The parties' inputs: texts of JSON, read as the words of ports.
+//! The parties' inputs and the printed output: texts of JSON, read as the words of ports, and the JSON value of a shape and its
+//! words.
 //!
 //! What a text is in JSON is `serde_json`'s own meaning of it: of equal names the last counts, and the members of an object
 //! stand in the order of the bytes of their names. A walk over the shapes gives the words of the leaves, or the first fault.
@@ -8,25 +9,30 @@
 //! | `specs/Leaf.antt` | the word of a number |
 //! | `specs/Walk.antt` | the words that a value gives to a shape, or the first fault |
 //! | `specs/File.antt` | the words that the texts of the parties give to their ports, or the first fault |
-//! | `specs/Meaning.antt` | what a user relies on: which texts and values say words, level by level |
+//! | `specs/Meaning.antt` | what a user relies on, by rules that know no walk: which values and texts say which words |
+//! | `specs/Text.antt` | the value of a shape and its words |
+//! | `specs/Names.antt` | sets of names |
 //!
 //! Laws that the crates above can import:
 //!
 //! | lemmas | on |
 //! |---|---|
-//! | `proofs/Laws.antt` | a text is read exactly where it says words, and as these; an array and a struct are read only where they are of their shape |
-//! | `proofs/Numbers.antt` | a number is read only where its scalar holds it, and its word is read as the number |
+//! | `proofs/Laws.antt` | a value is read exactly where it says words of its shape, and as these; so is a text, and so are both texts |
+//! | `proofs/Numbers.antt` | a number is read exactly where its scalar holds it, and its word is read as the number |
+//! | `proofs/Making.antt` | the value of a shape and its words says these words, and is read as them |
 //!
-//! The walk calls itself as deep as the shape; the text nests at most 127 deep, as `serde_json` reads it.
+//! The walks call themselves as deep as the shape; the text nests at most 127 deep, as `serde_json` reads it.
 #![tactic(auto)]
 
 mod fault;
 mod file;
 mod leaf;
+mod text;
 mod walk;
 
 pub use fault::{InputFault, InputKind};
 pub use file::{inputs_of, own_inputs};
+pub use text::text_of;
 
 #[cfg(test)]
 mod tests;

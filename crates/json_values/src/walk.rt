@@ -2,7 +2,8 @@ ghost use Rattle.std.specs.Prelude.{◌≡◌, ℕ, ◌++◌, List, [], map, opt
 ghost use Rattle.serde_json.specs.View.{view, items_view, members_view};
 ghost use Rattle.serde_json.specs.Find.{get_member, as_number, as_array, as_object};
 ghost use Rattle.json_values.specs.declared.fault.InputKind.TheVariants.{Extra};
-ghost use Rattle.json_values.specs.Walk.{Reading, Leaves, IsStop, onto, under, place, named, words_at, items_words, fields_words, scalar_words, array_words as words_of_array, struct_words as words_of_struct, wanted, fault_at, extra as extra_of, is_among, names_of, no_extra};
+ghost use Rattle.json_values.specs.Walk.{Reading, Leaves, IsStop, onto, under, place, named, words_at, items_words, fields_words, scalar_words, array_words as words_of_array, struct_words as words_of_struct, wanted, fault_at, extra as extra_of, names_of, no_extra};
+ghost use Rattle.json_values.specs.Names.{IsSetOf};
 
 use crate::fault::{Fault, InputKind, Stop};
 use crate::leaf::number_word;
@@ -10,9 +11,10 @@ use hy_bits::{Field, Memory, Scalar, Shape, Text};
 use serde_json::{Map, Value};
 use sqlite_items::Items;
 use std::alloc::Global;
+use std::collections::BTreeSet;
 
-/// Appends the words that a value gives to a shape. It takes time linear in the value, but for the fields of a struct, each
-/// of whose members is looked for among the fields. It calls itself as deep as the shape.
+/// Appends the words that a value gives to a shape, in time linear in the value, but for the look-up of names: a struct of n
+/// fields takes n log n comparisons. It calls itself as deep as the shape.
 #[cycle(walk)]
 #[tactic(auto, using(crate::proofs::Readings::words_at_Scalar, crate::proofs::Readings::words_at_Array, crate::proofs::Readings::words_at_Struct))]
 pub fn shape_words(
@@ -158,7 +160,7 @@ fn member_of<'a>(members: &'a Map<String, Value>, name: &[u8]) -> Option<&'a Val
     }
 }
 
-/// Stops at the first member that is none of the fields.
+/// Stops at the least member by bytes that is none of the fields.
 fn no_extra_field(
     alloc: Global,
     fields: &Items<Field>,
@@ -166,34 +168,37 @@ fn no_extra_field(
 ) -> Result<(), Stop>
     ensures { (words : List ℕ) → Leaves words result (onto words (under (codes ".") (no_extra (extra_of (names_of (map named fields.now)) (members_view members.now.entries))))) }
 {
-    match extra_field(fields, members) {
+    let names = field_names(alloc, fields)?;
+    match extra_member(&names, members) {
         Some(name) => Err(stop_under(alloc, b".", &[], extra_stop(alloc, name))),
         None => Ok(()),
     }
 }
 
-/// The first name of a member that no field has.
-fn extra_field<'a>(fields: &Items<Field>, members: &'a Map<String, Value>) -> Option<&'a [u8]>
-    ensures { option_map (λ name. name.now) result ≡ extra_of (names_of (map named fields.now)) (members_view members.now.entries) }
+/// The names of a struct's fields.
+fn field_names(alloc: Global, fields: &Items<Field>) -> Result<BTreeSet<&[u8]>, Memory>
+    ensures { IfOk result (IsSetOf (names_of (map named fields.now))) }
+{
+    let mut names = BTreeSet::new(alloc);
+    for field in fields.as_slice() {
+        names.insert(field.name.as_bytes())?;
+    }
+    Ok(names)
+}
+
+/// The least name by bytes of the members that have none of these names: members stand in the order of their names.
+pub fn extra_member<'a>(
+    names: &BTreeSet<&[u8]>,
+    members: &'a Map<String, Value>,
+) -> Option<&'a [u8]>
+    ensures { (listed : List (List ℕ)) → IsSetOf listed names.now → option_map (λ name. name.now) result ≡ extra_of listed (members_view members.now.entries) }
 {
     for (name, _) in members.iter() {
-        if !is_field(fields, name.as_bytes()) {
+        if !names.contains(name.as_bytes()) {
             return Some(name.as_bytes());
         }
     }
     None
-}
-
-/// Whether a field has this name.
-fn is_field(fields: &Items<Field>, name: &[u8]) -> bool
-    ensures { result ≡ is_among name.now (names_of (map named fields.now)) }
-{
-    for field in fields.as_slice() {
-        if field.name.is(name) {
-            return true;
-        }
-    }
-    false
 }
 
 /// A fault where the walk stands.

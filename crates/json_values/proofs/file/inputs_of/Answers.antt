@@ -1,0 +1,9 @@
+use Rattle.json_values.proofs.Laws.{first_fault, texts_refused}
+use Rattle.json_values.proofs.file.inputs_of.Goals as goal
+
+pub returns-in-Err-clause-first : goal.returns-in-Err-clause-first
+returns-in-Err-clause-first c = λ other. first_fault c.args.ports.now c.args.a.now c.args.b.now c.in-Err.fault (c.in-Err.ensures.fault other)
+
+pub returns-in-Err-clause-only : goal.returns-in-Err-clause-only
+returns-in-Err-clause-only c = λ other words said.
+    texts_refused c.args.ports.now c.args.a.now c.args.b.now words c.in-Err.fault (c.in-Err.ensures.fault other) said
