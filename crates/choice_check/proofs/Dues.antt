@@ -64,12 +64,12 @@ too_deep p cs number path walk good some deep (due ∷ dues) is nodes =
     inl (rw first (omega (arith, long, deep)), refl)
 
 -- a leaf that isn't sound
-pub unsound : (p : Problem) (cs : List Choice) (number value : ℕ) (path : List Choice) (walk : Walk) → 0 < walk.count → (IsSound p cs (take walk.depth path) value → ⊥) → Stops p cs number (Leaf value) path walk (LeafFault number (bound_of p (take walk.depth path)))
+pub unsound : (p : Problem) (cs : List Choice) (number value : ℕ) (path : List Choice) (walk : Walk) → 0 < walk.count → walk.bound ≡ bound_of p (take walk.depth path) → (IsSound p cs (take walk.depth path) value → ⊥) → Stops p cs number (Leaf value) path walk (LeafFault number walk.bound)
 unfolding IsFaultFrom
-unsound p cs number value path walk some bad [] is nodes = let size = is.size in absurd (omega (arith, size, some))
-unsound p cs number value path walk some bad (due ∷ dues) is nodes =
+unsound p cs number value path walk some bound bad [] is nodes = let size = is.size in absurd (omega (arith, size, some))
+unsound p cs number value path walk some bound bad (due ∷ dues) is nodes =
     let first : due.prefix ≡ take walk.depth path = (let d = is.due some in cc) in
-    inl (rw first (bad, refl))
+    inl (rw first (bad, ap (LeafFault number) bound))
 
 -- behind a sound leaf
 pub past_goes : (p : Problem) (cs : List Choice) (number value : ℕ) (path path' : List Choice) (walk walk' : Walk) → 0 < walk.count → IsSound p cs (take walk.depth path) value → walk'.count + 1 ≡ walk.count → walk'.lowest ≡ walk.lowest → siblings p path walk.depth ≡ cond (ltb 0 walk'.depth) (take walk'.depth path' ∷ siblings p path' walk'.depth) [] → GoesOn p cs number (Leaf value) path walk path' walk'
@@ -170,9 +170,9 @@ all_done p cs path walk (due ∷ dues) is none = let size = is.size in absurd (o
 abbrev pub root : Due
 root = record { branch = 0; prefix = [] }
 
-pub starts : (p : Problem) (path : List Choice) → IsWalk p path (record { depth = 0; count = 1; lowest = 0 }) (root ∷ [])
+pub starts : (p : Problem) (path : List Choice) (bound : ℕ) → IsWalk p path (record { depth = 0; count = 1; lowest = 0; bound = bound }) (root ∷ [])
 unfolding EndsAt siblings
-starts p path = record {
+starts p path bound = record {
   size = refl;
   due = λ some. refl;
   above = All-cons (λ (due : Due). 0 ≤ due.branch) root [] (omega arith) (All-nil (λ (due : Due). 0 ≤ due.branch));
@@ -202,8 +202,8 @@ behind_fault p cs nodes path walk number node d fault within is behind stops =
     let split : drop number nodes ≡ node ∷ drop (number + 1) nodes = drop_more nodes number d within ∙ ap (λ (n : TreeNode). n ∷ drop (number + 1) nodes) (sym is) in
     behind.faults fault (rw split (stops behind.dues behind.walks (drop (number + 1) nodes)))
 
-pub behind_start : (p : Problem) (cs : List Choice) (nodes : List TreeNode) (path : List Choice) → IsBehind p cs nodes path (record { depth = 0; count = 1; lowest = 0 }) 0
-behind_start p cs nodes path = record { dues = root ∷ []; walks = starts p path; faults = λ fault h. h; closes = λ h. h }
+pub behind_start : (p : Problem) (cs : List Choice) (nodes : List TreeNode) (path : List Choice) (bound : ℕ) → IsBehind p cs nodes path (record { depth = 0; count = 1; lowest = 0; bound = bound }) 0
+behind_start p cs nodes path bound = record { dues = root ∷ []; walks = starts p path bound; faults = λ fault h. h; closes = λ h. h }
 
 pub behind_closes : (p : Problem) (cs : List Choice) (nodes : List TreeNode) (path : List Choice) (walk : Walk) (number : ℕ) → length nodes ≤ number → walk.count ≡ 0 → IsBehind p cs nodes path walk number → ClosesAll p cs ([] ∷ []) nodes
 behind_closes p cs nodes path walk number past none behind = behind.closes (rw (drop_all number nodes past) (all_done p cs path walk behind.dues behind.walks none))

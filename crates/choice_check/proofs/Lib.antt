@@ -2,3 +2,4 @@ mod Later
 mod Siblings
 mod Dues
 mod Three
+mod Prefixes

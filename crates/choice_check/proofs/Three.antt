@@ -1,12 +1,16 @@
 -- The problem of the test meets what a problem has to meet.
-use Rattle.std.proofs.Common.{◌≡◌, refl, [], ◌∷◌, Some, None, arith}
+use Rattle.std.proofs.Common.{◌≡◌, List, refl, [], ◌∷◌, length, Some, None, Result, arith}
+use Rattle.std.specs.List.{All}
+use Rattle.std.specs.Result.{IfOk}
 use Rattle.std.proofs.lemmas.List.Elements.{All-nil, All-cons}
+use Rattle.std.proofs.lemmas.Result.{IfOk-weaker}
 use Rattle.choice_core.specs.declared.sharings.Choice.TheVariants.{Y, S}
 use Rattle.choice_core.specs.declared.sharings.Sharing.{Sharing}
 use Rattle.choice_core.specs.declared.sharings.Sharing.TheVariants.{Arithmetic, Boolean, Yao}
 use Rattle.choice_core.specs.declared.problems.Fan.{Fan}
 use Rattle.choice_core.specs.declared.problems.Problem.{Problem}
-use Rattle.choice_core.specs.Problems.{Row, price_of, Fits, HasChoice, Ascends, IsFan, IsProblem, IsAssignment}
+use Rattle.choice_core.specs.Problems.{Row, price_of, Fits, HasChoice, Ascends, IsFan, IsIndexed, IsProblem, IsAssignment}
+use Rattle.choice_core.proofs.Parts.{problem_of_parts}
 
 abbrev one : Row
 one = None ∷ Some 1 ∷ Some 1 ∷ Some 0 ∷ []
@@ -17,11 +21,14 @@ two = None ∷ Some 0 ∷ Some 1 ∷ Some 1 ∷ []
 abbrev last : Row
 last = None ∷ Some 1 ∷ Some 0 ∷ Some 0 ∷ []
 
+abbrev pub three_rows : List Row
+three_rows = one ∷ two ∷ last ∷ []
+
 abbrev fan : Fan
 fan = record { from = 1; to = 2 ∷ []; price = (0 ∷ 0 ∷ 0 ∷ []) ∷ (0 ∷ 0 ∷ 0 ∷ []) ∷ (0 ∷ 1 ∷ 0 ∷ []) ∷ [] }
 
-abbrev pub three : Problem
-three = record { own = one ∷ two ∷ last ∷ []; fans = fan ∷ [] }
+abbrev pub three_fans : List Fan
+three_fans = fan ∷ []
 
 fan_is : IsFan 3 fan
 unfolding Ascends
@@ -32,13 +39,22 @@ fan_is = record { some = omega arith; ascends = (omega arith, omega arith, tt); 
     free Boolean = refl
     free Yao = refl
 
-pub three_is : IsProblem three
-three_is = record {
-  choices = All-cons HasChoice one (two ∷ last ∷ []) (Y, refl) (All-cons HasChoice two (last ∷ []) (Y, refl) (All-cons HasChoice last [] (Y, refl) (All-nil HasChoice)));
-  fans = All-cons (IsFan 3) fan [] fan_is (All-nil (IsFan 3));
-  small = omega arith;
-}
+three_fans_are : All (IsFan 3) three_fans
+three_fans_are = All-cons (IsFan 3) fan [] fan_is (All-nil (IsFan 3))
 
-pub three_assigned : IsAssignment three (S ∷ Y ∷ Y ∷ [])
+pub all_are_fans : (own : List Row) (fans : List Fan) → own ≡ three_rows → fans ≡ three_fans → All (IsFan (length own)) fans
+all_are_fans own fans own_is fans_is = rw (own_is, fans_is) three_fans_are
+
+pub three_is : {E : Type 0} (r : Result Problem E) → IfOk r (λ p. p.own ≡ three_rows) → IfOk r (λ p. p.fans ≡ three_fans) → IfOk r (λ p. IsIndexed p) → IfOk r (λ p. IsProblem p)
+three_is r own fans indexed =
+    problem_of_parts r three_rows three_fans own fans indexed
+    (All-cons HasChoice one (two ∷ last ∷ []) (Y, refl) (All-cons HasChoice two (last ∷ []) (Y, refl) (All-cons HasChoice last [] (Y, refl) (All-nil HasChoice))))
+    three_fans_are
+    (omega arith)
+
+pub three_assigned : {E : Type 0} (r : Result Problem E) → IfOk r (λ p. p.own ≡ three_rows) → IfOk r (λ p. IsAssignment p (S ∷ Y ∷ Y ∷ []))
 unfolding Fits
-three_assigned = record { fits = (refl, (refl, (refl, tt))); whole = refl }
+three_assigned r own = IfOk-weaker r (λ p. p.own ≡ three_rows) (λ p. IsAssignment p (S ∷ Y ∷ Y ∷ [])) (λ p is. record { fits = rw is (refl, (refl, (refl, tt))); whole = rw is refl }) own
+
+pub three_long : {E : Type 0} (r : Result Problem E) → IfOk r (λ p. p.own ≡ three_rows) → IfOk r (λ p. length p.own ≡ 3)
+three_long r own = IfOk-weaker r (λ p. p.own ≡ three_rows) (λ p. length p.own ≡ 3) (λ p is. rw is refl) own

@@ -7,13 +7,14 @@ ghost use Rattle.choice_check.specs.Faults.{IsFault};
 
 use crate::faults::TreeFault;
 use crate::walks::{Walk, step};
-use choice_core::{Choice, Problem, Tree, cost};
+use choice_core::{Choice, Problem, Tree, bound, cost};
 
 /// Whether the tree closes for the choices, which are then the least ones, whoever made the tree.
 /// The first node in preorder is named that is a leaf without its prefix's bound or whose prefix
 /// doesn't close, a branch at a complete prefix, or surplus; where there is none, the lowest
 /// numbered branch that lacks a child, and 0 for a tree without nodes. `buffer` is overwritten. It
-/// takes no memory; its time is that of `bound` for each leaf.
+/// takes no memory. Its time is that of `bound` once and of `rise` for each node, as it comes and as it
+/// goes; a leaf whose bound is the cost is compared with the choices besides.
 pub fn check(
     problem: &Problem,
     choices: &[Choice],
@@ -34,6 +35,7 @@ pub fn check(
         depth: 0,
         count: 1,
         lowest: 0,
+        bound: bound(problem, &buffer[..0]),
     };
     for (number, node) in tree.nodes.as_slice().iter().enumerate() {
         walk = step(problem, choices, cost, number as u32, *node, buffer, walk)?;

@@ -3,9 +3,10 @@
 ghost use Rattle.std.specs.Prelude.{◌≡◌, ◌+◌, ◌<◌, ◌≤◌, cond, is_some, nat_lt, length, take, [], ◌∷◌, MatchOption, IsSome};
 ghost use Rattle.choice_core.specs.Choices.{place};
 ghost use Rattle.choice_core.specs.Problems.{own_of, HasChoice, IsProblem};
+ghost use Rattle.choice_core.specs.Bound.{bound_of};
 ghost use Rattle.choice_check.specs.Walks.{choices_from, row_of, siblings, IsPath};
 
-use choice_core::{Choice, Problem};
+use choice_core::{Choice, Problem, rise};
 
 /// The choice of a place in the order A, Y, C, S.
 fn choice_at(number: usize) -> Choice
@@ -61,19 +62,45 @@ pub fn count_choices(row: &[Option<u64>; 4]) -> usize
     one(a) + one(y) + one(c) + one(s)
 }
 
+/// The bound of the path's first choices with the one of this number, from that without it.
+pub fn bound_with(problem: &Problem, path: &[Choice], number: usize, bound: u64) -> u64
+    requires problem { IsProblem problem.now }
+    requires path { IsPath problem.now path.now (number + 1) }
+    requires bound { bound ≡ bound_of problem.now (take number path.now) }
+    ensures { result ≡ bound_of problem.now (take (number + 1) path.now) }
+{
+    bound + rise(problem, &path[..number + 1])
+}
+
+/// The bound of the path's first choices without the one of this number, from that with it.
+fn bound_without(problem: &Problem, path: &[Choice], number: usize, bound: u64) -> u64
+    requires problem { IsProblem problem.now }
+    requires path { IsPath problem.now path.now (number + 1) }
+    requires bound { bound ≡ bound_of problem.now (take (number + 1) path.now) }
+    ensures { result ≡ bound_of problem.now (take number path.now) }
+{
+    bound - rise(problem, &path[..number + 1])
+}
+
 /// Makes the path's first choices those of the next prefix that is due behind them, and answers
-/// how many these are, or 0 where none is due. The time is linear in the choices that it drops.
-pub fn advance(problem: &Problem, path: &mut [Choice], depth: usize) -> usize
-    requires { IsPath problem.now path.old depth }
-    ensures path { IsPath problem.now path.new result }
-    ensures next { siblings problem.now path.old depth ≡ cond (nat_lt 0 result) (take result path.new ∷ siblings problem.now path.new result) [] }
+/// how many these are, or 0 where none is due, and their bound. The time is that of `rise` for each
+/// choice that it drops.
+pub fn advance(problem: &Problem, path: &mut [Choice], depth: usize, bound: u64) -> (usize, u64)
+    requires problem { IsProblem problem.now }
+    requires path { IsPath problem.now path.old depth }
+    requires bound { bound ≡ bound_of problem.now (take depth path.old) }
+    ensures path { IsPath problem.now path.new result.0 }
+    ensures next { siblings problem.now path.old depth ≡ cond (nat_lt 0 result.0) (take result.0 path.new ∷ siblings problem.now path.new result.0) [] }
+    ensures bound { result.1 ≡ bound_of problem.now (take result.0 path.new) }
 {
     let rows = problem.own.as_slice();
+    let mut left = bound;
     for number in (0..depth).rev() {
+        left = bound_without(problem, path, number, left);
         if let Some(choice) = next_choice(&rows[number], path[number].place() + 1) {
             path[number] = choice;
-            return number + 1;
+            return (number + 1, bound_with(problem, path, number, left));
         }
     }
-    0
+    (0, left)
 }

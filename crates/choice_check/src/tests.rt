@@ -3,11 +3,12 @@ ghost use Rattle.choice_core.specs.Problems.{IsAssignment, IsProblem};
 
 use crate::{TreeFault, check};
 use choice_core::{Choice, Fan, Problem, Sequence, Tree, TreeNode};
+use hy_bits::Memory;
 use std::alloc::{AllocError, Global};
 use std::test::Fail;
 
 /// Three modules without A, and one fan that costs 1 from Y to B.
-fn three(alloc: Global) -> Result<Problem, AllocError>
+fn three(alloc: Global) -> Result<Problem, Memory>
     ensures problem { IfOk result (λ p. IsProblem p) }
     ensures assigned { IfOk result (λ p. IsAssignment p (Choice.S ∷ Choice.Y ∷ Choice.Y ∷ [])) }
     ensures three { IfOk result (λ p. length p.own ≡ 3) }
@@ -24,10 +25,7 @@ fn three(alloc: Global) -> Result<Problem, AllocError>
         to: Sequence::new(consumers),
         price: [[0, 0, 0], [0, 0, 0], [0, 1, 0]],
     })?;
-    Ok(Problem {
-        own: Sequence::new(own),
-        fans: Sequence::new(fans),
-    })
+    Problem::of(alloc, Sequence::new(own), Sequence::new(fans))
 }
 
 /// The tree of these nodes.
@@ -72,7 +70,7 @@ fn answer(
     count: usize,
     place: usize,
     node: TreeNode,
-) -> Result<Result<(), TreeFault>, AllocError>
+) -> Result<Result<(), TreeFault>, Memory>
     requires count { count ≤ 17 }
     requires place { place < 17 }
 {
@@ -105,6 +103,24 @@ fn the_tree_of_three_modules_closes_and_each_altered_one_is_refused(
     ] {
         assert!(rt; place < 17 && count <= 17);
         assert_eq!(rt; answer(rt.alloc(), count, place, node)?, expected);
+    }
+    Ok(())
+}
+
+#[test]
+fn each_node_altered_alone_is_refused(rt: HostRuntime) -> Result<(), Fail> {
+    for place in 0..16 {
+        let right = nodes()[place];
+        for bound in 0..4 {
+            let leaf = TreeNode::Leaf(bound);
+            let expected = leaf == right;
+            assert_eq!(rt; answer(rt.alloc(), 16, place, leaf)?.is_ok(), expected);
+        }
+        let expected = right == TreeNode::Branch;
+        assert_eq!(rt;
+            answer(rt.alloc(), 16, place, TreeNode::Branch)?.is_ok(),
+            expected
+        );
     }
     Ok(())
 }

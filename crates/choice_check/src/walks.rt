@@ -1,21 +1,24 @@
 //! A walk through the nodes of a tree.
 
-ghost use Rattle.std.specs.Prelude.{◌≡◌, ◌+◌, ◌^◌, ◌<◌, ◌≤◌, ◌==◌, cond, length, MatchResult, IfOk};
+ghost use Rattle.std.specs.Prelude.{◌≡◌, ◌+◌, ◌^◌, ◌<◌, ◌≤◌, ◌==◌, cond, length, take, MatchResult, IfOk};
 ghost use Rattle.choice_core.specs.Problems.{cost_of, IsProblem};
+ghost use Rattle.choice_core.specs.Bound.{bound_of};
 ghost use Rattle.choice_check.specs.Walks.{IsPath, GoesOn, Stops};
 
 use crate::closing::closes;
 use crate::faults::TreeFault;
-use crate::paths::{advance, count_choices, first_choice};
-use choice_core::{Choice, Problem, TreeNode, bound};
+use crate::paths::{advance, bound_with, count_choices, first_choice};
+use choice_core::{Choice, Problem, TreeNode};
 
 /// Where a walk stands: how many choices of the path the next prefix has that is due, how many
-/// prefixes are due, and the lowest number among the branches that still lack a child.
+/// prefixes are due, the lowest number among the branches that still lack a child, and the bound of
+/// that prefix.
 #[derive(Clone, Copy)]
 pub struct Walk {
     pub depth: usize,
     pub count: usize,
     pub lowest: u32,
+    pub bound: u64,
 }
 
 /// The lowest number among the branches that lack a child, where one more branch begins: the others
@@ -36,11 +39,13 @@ fn down(
 ) -> Result<Walk, TreeFault>
     requires problem { IsProblem problem.now }
     requires path { IsPath problem.now path.old walk.depth }
+    requires bound { walk.bound ≡ bound_of problem.now (take walk.depth path.old) }
     requires some { 0 < walk.count }
     requires few { walk.count < 2 ^ 60 }
     requires lowest { walk.lowest ≤ number }
     ensures node { MatchResult result (λ w. GoesOn problem.now choices.now number TreeNode.Branch path.old walk path.new w) (λ f. Stops problem.now choices.now number TreeNode.Branch path.old walk f) }
     ensures path { IfOk result (λ w. IsPath problem.now path.new w.depth) }
+    ensures bound { IfOk result (λ w. w.bound ≡ bound_of problem.now (take w.depth path.new)) }
     ensures few { IfOk result (λ w. w.count ≤ walk.count + 3) }
     ensures lowest { IfOk result (λ w. w.lowest ≤ number) }
 {
@@ -54,6 +59,7 @@ fn down(
         depth: walk.depth + 1,
         count: walk.count - 1 + count_choices(row),
         lowest: lowest_below(walk, number),
+        bound: bound_with(problem, path, walk.depth, walk.bound),
     })
 }
 
@@ -70,21 +76,24 @@ fn past(
     requires problem { IsProblem problem.now }
     requires cost { cost ≡ cost_of problem.now choices.now }
     requires path { IsPath problem.now path.old walk.depth }
+    requires bound { walk.bound ≡ bound_of problem.now (take walk.depth path.old) }
     requires some { 0 < walk.count }
     ensures node { MatchResult result (λ w. GoesOn problem.now choices.now number (TreeNode.Leaf value) path.old walk path.new w) (λ f. Stops problem.now choices.now number (TreeNode.Leaf value) path.old walk f) }
     ensures path { IfOk result (λ w. IsPath problem.now path.new w.depth) }
+    ensures bound { IfOk result (λ w. w.bound ≡ bound_of problem.now (take w.depth path.new)) }
     ensures few { IfOk result (λ w. w.count ≤ walk.count) }
     ensures lowest { IfOk result (λ w. w.lowest ≡ walk.lowest) }
 {
     let prefix = &path[..walk.depth];
-    let bound = bound(problem, prefix);
-    if value != bound || !closes(problem, choices, cost, prefix, bound) {
-        return Err(TreeFault::Leaf(number, bound));
+    if value != walk.bound || !closes(problem, choices, cost, prefix, walk.bound) {
+        return Err(TreeFault::Leaf(number, walk.bound));
     }
+    let (depth, bound) = advance(problem, path, walk.depth, walk.bound);
     Ok(Walk {
-        depth: advance(problem, path, walk.depth),
+        depth,
         count: walk.count - 1,
         lowest: walk.lowest,
+        bound,
     })
 }
 
@@ -101,10 +110,12 @@ pub fn step(
     requires problem { IsProblem problem.now }
     requires cost { cost ≡ cost_of problem.now choices.now }
     requires path { IsPath problem.now path.old walk.depth }
+    requires bound { walk.bound ≡ bound_of problem.now (take walk.depth path.old) }
     requires few { walk.count < 2 ^ 60 }
     requires lowest { walk.lowest ≤ number }
     ensures node { MatchResult result (λ w. GoesOn problem.now choices.now number node path.old walk path.new w) (λ f. Stops problem.now choices.now number node path.old walk f) }
     ensures path { IfOk result (λ w. IsPath problem.now path.new w.depth) }
+    ensures bound { IfOk result (λ w. w.bound ≡ bound_of problem.now (take w.depth path.new)) }
     ensures few { IfOk result (λ w. w.count ≤ walk.count + 3) }
     ensures lowest { IfOk result (λ w. w.lowest ≤ number) }
 {

@@ -15,9 +15,9 @@ use Rattle.choice_core.specs.declared.sharings.Sharing.TheVariants.{Arithmetic, 
 use Rattle.choice_core.specs.declared.problems.Fan.{Fan}
 use Rattle.choice_core.specs.declared.problems.Problem.{Problem}
 use Rattle.choice_core.specs.Choices.{sharing_of}
-use Rattle.choice_core.specs.Problems.{Row, own_of, own_sum, sharing_at, reaches, charge, fan_cost_from, fan_cost, cost_of, Fits, Ascends, IsFan, IsProblem, greatest_own}
+use Rattle.choice_core.specs.Problems.{Row, own_of, own_sum, sharing_at, reaches, charge, fan_cost_from, fan_cost, cost_of, Fits, Ascends, IsFan, IsProblem, greatest_own, touches, AreTouching}
 use Rattle.choice_core.specs.Bound.{least, next_from, is_at, further_from, further, due, least_at, least_past, least_price, bound_of}
-use Rattle.choice_core.specs.Growing.{touches, AreTouching, entry_of, IsDueTable, least_by, least_sum, before_last, unplaced, lost, added}
+use Rattle.choice_core.specs.Growing.{entry_of, IsDueTable, least_by, least_sum, before_last, unplaced, lost, added}
 use Rattle.choice_core.proofs.Sums.{sum_add, least_le, least_from, Fits-within}
 use Rattle.choice_core.proofs.Limits.{due_le, own_sum_more}
 use Rattle.choice_core.proofs.Loops.{least_past_more}
@@ -208,7 +208,7 @@ shifted : (o : Option ℕ) (a b n : ℕ) → option_map (λ own. own + a) o ≡ 
 shifted None a b n is = absurd (cc)
 shifted (Some own) a b n is = (own + b, refl, (let same : own + a ≡ n = cc in omega (arith, same)))
 
-least_by_le : (row : Row) (one two : List ℕ) → ((t : Sharing) → entry_of one t ≤ entry_of two t) → least_by row one ≤ least_by row two
+pub least_by_le : (row : Row) (one two : List ℕ) → ((t : Sharing) → entry_of one t ≤ entry_of two t) → least_by row one ≤ least_by row two
 least_by_le row one two le = by_least (least (λ c. option_map (λ own. own + entry_of one (sharing_of c)) (own_of row c))) refl
   where
     by_least : (o : Option ℕ) → least (λ c. option_map (λ own. own + entry_of one (sharing_of c)) (own_of row c)) ≡ o → unwrap_or (least (λ c. option_map (λ own. own + entry_of one (sharing_of c)) (own_of row c))) 0 ≤ least_by row two

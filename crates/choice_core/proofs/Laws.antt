@@ -18,7 +18,7 @@ use Rattle.choice_core.specs.Least.{IsLater, IsLeast, ClosesAt, children, Closes
 use Rattle.choice_core.proofs.Sums.{sum_le, sum_zero, Fits-left, Fits-right, Fits-within}
 use Rattle.choice_core.proofs.Steps.{term, term_step, bound_le_terms, bound_is_terms, first_next}
 
-fits_head : (rows : List Row) (c : Choice) (cs : List Choice) → Fits rows (c ∷ cs) → IsSome (own_of (get_or rows 0 []) c) × Fits (drop 1 rows) cs
+pub fits_head : (rows : List Row) (c : Choice) (cs : List Choice) → Fits rows (c ∷ cs) → IsSome (own_of (get_or rows 0 []) c) × Fits (drop 1 rows) cs
 unfolding Fits
 fits_head [] c cs fits = absurd fits
 fits_head (row ∷ rows) c cs fits = fits
@@ -76,7 +76,7 @@ bound_below p problem prefix rest assigned =
     let whole = bound_of_whole p problem (prefix ++ rest) assigned.whole in
     omega (arith, rises, whole)
 
-later_on : (prefix cs rest : List Choice) → IsLater prefix cs → IsLater (prefix ++ rest) cs
+pub later_on : (prefix cs rest : List Choice) → IsLater prefix cs → IsLater (prefix ++ rest) cs
 unfolding IsLater
 later_on [] cs rest later = absurd later
 later_on (c ∷ prefix) [] rest later = absurd later
@@ -138,7 +138,7 @@ among_children test prefix (c ∷ cs) more d rest ds (inr later) passes is = by_
     by_test true among = inr among
     by_test false among = among
 
-is_some_true : {X : Type 0} (o : Option X) → IsSome o → is_some o ≡ true
+pub is_some_true : {X : Type 0} (o : Option X) → IsSome o → is_some o ≡ true
 is_some_true None some = some
 is_some_true (Some x) some = refl
 
@@ -169,7 +169,7 @@ closes_least p problem cs assigned nodes closes = record {
   before_all = λ ds other. tree_below p problem cs assigned ([] ∷ []) nodes closes ds other (inl (ds, refl));
 }
 
-not_both_later : (cs ds : List Choice) → IsLater cs ds → IsLater ds cs → ⊥
+pub not_both_later : (cs ds : List Choice) → IsLater cs ds → IsLater ds cs → ⊥
 unfolding IsLater
 not_both_later [] ds one two = one
 not_both_later (c ∷ cs) [] one two = one

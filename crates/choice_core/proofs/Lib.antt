@@ -6,3 +6,6 @@ mod Walks
 mod Loops
 mod Ladders
 pub mod Growth
+pub mod Parts
+pub mod Rises
+mod Touched

@@ -1,5 +1,5 @@
 -- What is kept to grow a prefix by one choice in time linear in the fans that touch its module.
-use Rattle.std.specs.Prelude.{◌≡◌, ℕ, ◌+◌, ◌-◌, ◌<◌, ◌≤◌, Bool, cond, ◌||◌, ◌==◌, nat_lt, List, [], ◌∷◌, length, take, map, filter, Some, slice_get, slice_index, slice_index_or, sum_by, option_map, unwrap_or}
+use Rattle.std.specs.Prelude.{◌≡◌, ℕ, ◌+◌, ◌-◌, ◌<◌, ◌≤◌, Bool, cond, ◌==◌, nat_lt, List, [], ◌∷◌, length, take, slice_index, slice_index_or, sum_by, option_map, unwrap_or}
 use Rattle.std.specs.List.{list_any}
 use Rattle.choice_core.specs.declared.sharings.Choice.{Choice}
 use Rattle.choice_core.specs.declared.sharings.Sharing.{Sharing}
@@ -7,15 +7,7 @@ use Rattle.choice_core.specs.declared.problems.Fan.{Fan}
 use Rattle.choice_core.specs.declared.problems.Problem.{Problem}
 use Rattle.choice_core.specs.Choices.{sharing_of, rank}
 use Rattle.choice_core.specs.Problems.{Row, own_of}
-use Rattle.choice_core.specs.Bound.{least, next_from, is_at, further, due, least_price}
-
--- whether the module is the fan's producer or a consumer
-unfoldable pub touches : Fan → ℕ → Bool
-touches f m = (f.from == m) || list_any (λ consumer. consumer == m) f.to
-
--- the numbers of the fans that touch a module, in order
-abbrev pub AreTouching : List Fan → ℕ → List ℕ → Type 0
-AreTouching fans m numbers = map (λ i. slice_get fans i) numbers ≡ map (λ f. Some f) (filter (λ f. touches f m) fans)
+use Rattle.choice_core.specs.Bound.{least, next_from, is_at, further, due, least_at, least_price}
 
 -- what a table's entry has for a sharing
 abbrev pub entry_of : List ℕ → Sharing → ℕ
@@ -51,3 +43,13 @@ lost rows m f = cond (f.from == m) (least_price rows f) 0
 -- what a fan adds at a module: something at its next consumer alone
 abbrev pub added : Fan → List Choice → ℕ → Sharing → ℕ
 added f cs m t = cond (is_at (next_from (length cs) f.to) m) (further f cs t) 0
+
+-- whether one of the fans has the module as its first consumer past k modules
+abbrev pub is_next_of : List Fan → ℕ → ℕ → Bool
+is_next_of fans k m = list_any (λ f. is_at (next_from k f.to) m) fans
+
+-- the least that modules from m on add: with the last choice where one of these fans has the module as its next consumer, and
+-- elsewhere without it
+unfoldable pub partly : Problem → List Choice → List Fan → ℕ → List Row → ℕ
+partly p cs fans m [] = 0
+partly p cs fans m (row ∷ rows) = cond (is_next_of fans (length cs) m) (least_at p.fans cs m row) (least_at p.fans (before_last cs) m row) + partly p cs fans (m + 1) rows

@@ -1,5 +1,5 @@
 -- What a choice of circuits costs: own costs of modules, and conversions along fans.
-use Rattle.std.specs.Prelude.{◌≡◌, ℕ, ◌+◌, ◌*◌, ◌^◌, ◌<◌, Bool, false, cond, ◌&&◌, not, max, List, [], ◌∷◌, length, Option, Some, None, IsSome, slice_get, slice_index, slice_index_or, sum_by, All, option_map, unwrap_or}
+use Rattle.std.specs.Prelude.{◌≡◌, ℕ, ◌+◌, ◌*◌, ◌^◌, ◌<◌, Bool, false, cond, ◌&&◌, ◌||◌, ◌==◌, not, max, List, [], ◌∷◌, length, map, filter, Option, Some, None, IsSome, slice_get, slice_index, slice_index_or, sum_by, All, option_map, unwrap_or}
 use Rattle.std.specs.List.{list_any}
 use Rattle.choice_core.specs.declared.sharings.Choice.{Choice}
 use Rattle.choice_core.specs.declared.sharings.Choice.TheVariants.{A, Y, C, S}
@@ -91,8 +91,22 @@ greatest_from f s = max (max (price_of f s Arithmetic) (price_of f s Boolean)) (
 abbrev pub greatest_price : Fan → ℕ
 greatest_price f = max (max (greatest_from f Arithmetic) (greatest_from f Boolean)) (greatest_from f Yao)
 
+-- whether the module is the fan's producer or a consumer
+unfoldable pub touches : Fan → ℕ → Bool
+touches f m = (f.from == m) || list_any (λ consumer. consumer == m) f.to
+
+-- the numbers of the fans that touch a module, in order
+abbrev pub AreTouching : List Fan → ℕ → List ℕ → Type 0
+AreTouching fans m numbers = map (λ i. slice_get fans i) numbers ≡ map (λ f. Some f) (filter (λ f. touches f m) fans)
+
+-- for each module the numbers of the fans that touch it, in order
+pub record IsIndexed (p : Problem) : Type 0 where
+  pub size : length p.touching ≡ length p.own
+  pub numbers : (m : ℕ) → m < length p.own → AreTouching p.fans m (slice_index_or p.touching m [])
+
 -- what a problem has to meet; every cost and every bound is then below 2 ^ 63
 pub record IsProblem (p : Problem) : Type 0 where
   pub choices : All HasChoice p.own
   pub fans : All (IsFan (length p.own)) p.fans
+  pub touching : IsIndexed p
   pub small : sum_by greatest_own p.own + sum_by (λ f. 2 * greatest_price f) p.fans < 2 ^ 63

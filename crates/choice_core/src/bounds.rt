@@ -1,6 +1,6 @@
 //! The cost of a list of choices, and the bound of a prefix.
 
-ghost use Rattle.std.specs.Prelude.{◌≡◌, ◌+◌, ◌*◌, ◌^◌, ◌<◌, ◌≤◌, cond, nat_lt, sum_by, option_map, length, drop, List, ◌++◌};
+ghost use Rattle.std.specs.Prelude.{◌≡◌, ◌+◌, ◌*◌, ◌^◌, ◌<◌, ◌≤◌, cond, nat_lt, sum_by, option_map, length, drop, List, [], ◌++◌, slice_index_or};
 ghost use Rattle.std.specs.Option.{option_and_then};
 ghost use Rattle.choice_core.specs.Choices.{sharing_of};
 ghost use Rattle.choice_core.specs.Problems.{Row, own_of, price_of, own_sum, fan_cost, cost_of, Fits, IsAssignment, IsFan, IsProblem, greatest_own, greatest_price};
@@ -71,13 +71,15 @@ fn least(a: Option<u64>, y: Option<u64>, c: Option<u64>, s: Option<u64>) -> Opti
 }
 
 /// What a sharing at the module of this number adds to the fans whose first consumer past the
-/// prefix it is.
-fn due(fans: &[Fan], prefix: &[Choice], number: usize, sharing: Sharing) -> u64
-    requires { sum_by (λ f. 2 * greatest_price f) fans.now < 2 ^ 63 }
-    ensures { result ≡ due fans.now prefix.now number sharing }
+/// prefix it is. The time is linear in the consumers of the fans that touch the module.
+pub fn due(problem: &Problem, prefix: &[Choice], number: usize, sharing: Sharing) -> u64
+    requires problem { IsProblem problem.now }
+    requires within { number < length problem.now.own }
+    ensures { result ≡ due problem.now.fans prefix.now number sharing }
 {
     let mut total = 0;
-    for fan in fans {
+    for place in 0..problem.touching_count(number) {
+        let fan = problem.touching_fan(number, place);
         if fan.next_from(prefix.len()) == Some(number) {
             total += fan.further(prefix, sharing);
         }
@@ -109,17 +111,18 @@ pub fn least_by(row: &[Option<u64>; 4], entry: &[u64; 3]) -> u64
     .unwrap_or(0)
 }
 
-/// The least that the module of this number adds to the cost.
-fn least_at(fans: &[Fan], prefix: &[Choice], number: usize, row: &[Option<u64>; 4]) -> u64
-    requires { greatest_own row.now + sum_by (λ f. 2 * greatest_price f) fans.now < 2 ^ 63 }
-    ensures { result ≡ least_at fans.now prefix.now number row.now }
+/// The least that the module of this number adds to the cost, in the time of `due`.
+pub fn least_at(problem: &Problem, prefix: &[Choice], number: usize) -> u64
+    requires problem { IsProblem problem.now }
+    requires within { number < length problem.now.own }
+    ensures { result ≡ least_at problem.now.fans prefix.now number (slice_index_or problem.now.own number []) }
 {
     let entry = [
-        due(fans, prefix, number, Sharing::Arithmetic),
-        due(fans, prefix, number, Sharing::Boolean),
-        due(fans, prefix, number, Sharing::Yao),
+        due(problem, prefix, number, Sharing::Arithmetic),
+        due(problem, prefix, number, Sharing::Boolean),
+        due(problem, prefix, number, Sharing::Yao),
     ];
-    least_by(row, &entry)
+    least_by(&problem.own.as_slice()[number], &entry)
 }
 
 /// The least that the modules past the prefix add to the cost, each by itself.
@@ -128,10 +131,9 @@ fn least_past(problem: &Problem, prefix: &[Choice]) -> u64
     requires fits { Fits problem.now.own prefix.now }
     ensures { result ≡ least_past problem.now.fans prefix.now (length prefix.now) (drop (length prefix.now) problem.now.own) }
 {
-    let rows = problem.own.as_slice();
     let mut total = 0;
-    for number in prefix.len()..rows.len() {
-        total += least_at(problem.fans.as_slice(), prefix, number, &rows[number]);
+    for number in prefix.len()..problem.own.as_slice().len() {
+        total += least_at(problem, prefix, number);
     }
     total
 }
@@ -196,8 +198,8 @@ fn unplaced_sum(problem: &Problem, prefix: &[Choice]) -> u64
 
 /// A bound on the cost of each list of choices that begins with the prefix, as `least_past` and
 /// `least_price` say it: the cost so far, the least that each further module adds, and the least
-/// price of each fan whose producer is past the prefix. The time is that of one pass over all
-/// fans' consumers for each module past the prefix.
+/// price of each fan whose producer is past the prefix. The time is that of one pass over the
+/// consumers of the fans that touch it, for each module past the prefix.
 pub fn bound(problem: &Problem, prefix: &[Choice]) -> u64
     requires problem { IsProblem problem.now }
     requires fits { Fits problem.now.own prefix.now }

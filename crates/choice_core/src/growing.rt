@@ -1,15 +1,14 @@
 //! A bound that is grown by one choice, with a table of what each sharing adds at each module.
 
-ghost use Rattle.std.specs.Prelude.{◌≡◌, ◌+◌, ◌-◌, ◌*◌, ◌^◌, ◌<◌, ◌≤◌, ℕ, sum_by, length, drop, filter, slice_index_or, [], IfOk};
+ghost use Rattle.std.specs.Prelude.{◌≡◌, ◌+◌, ◌-◌, ◌*◌, ◌^◌, ◌<◌, ◌≤◌, ℕ, sum_by, length, drop, filter, slice_index_or, []};
 ghost use Rattle.choice_core.specs.declared.sharings.Sharing.{Sharing};
-ghost use Rattle.choice_core.specs.Problems.{cost_of, Fits, IsFan, IsProblem, greatest_own};
+ghost use Rattle.choice_core.specs.Problems.{cost_of, Fits, IsFan, IsProblem, greatest_own, touches, AreTouching};
 ghost use Rattle.choice_core.specs.Bound.{further, bound_of};
-ghost use Rattle.choice_core.specs.Growing.{touches, AreTouching, entry_of, IsDueTable, least_by, least_sum, before_last, unplaced, lost, added};
+ghost use Rattle.choice_core.specs.Growing.{entry_of, IsDueTable, least_by, least_sum, before_last, unplaced, lost, added};
 
 use crate::bounds::{least_by, least_price};
 use crate::problems::{Fan, Problem, own_cost};
 use crate::sharings::{Choice, Sharing};
-use std::alloc::Global;
 
 /// An entry with what the fan adds to it.
 fn raised(fan: &Fan, choices: &[Choice], entry: &[u64; 3]) -> [u64; 3]
@@ -25,16 +24,15 @@ fn raised(fan: &Fan, choices: &[Choice], entry: &[u64; 3]) -> [u64; 3]
 }
 
 /// The least prices of the fans whose producer is the module, of those that touch it.
-fn lost_sum(problem: &Problem, touching: &[u32], number: usize) -> u64
+pub fn lost_sum(problem: &Problem, number: usize) -> u64
     requires problem { IsProblem problem.now }
-    requires touching { AreTouching problem.now.fans number touching.now }
+    requires within { number < length problem.now.own }
     requires small { sum_by (lost problem.now.own number) (filter (λ f. touches f number) problem.now.fans) < 2 ^ 64 }
     ensures { result ≡ sum_by (lost problem.now.own number) (filter (λ f. touches f number) problem.now.fans) }
 {
-    let fans = problem.fans.as_slice();
     let mut total = 0;
-    for place in touching {
-        let fan = &fans[*place as usize];
+    for place in 0..problem.touching_count(number) {
+        let fan = problem.touching_fan(number, place);
         if fan.from as usize == number {
             total += least_price(problem.own.as_slice(), fan);
         }
@@ -95,25 +93,6 @@ fn raise(
     sum
 }
 
-/// The numbers of the fans that touch the module of this number, in order: those whose producer or
-/// consumer it is. The time is linear in all fans' consumers.
-pub fn touching(
-    alloc: Global,
-    problem: &Problem,
-    number: usize,
-) -> Result<Vec<u32>, hy_bits::Memory>
-    requires { length problem.now.fans < 2 ^ 32 }
-    ensures { IfOk result (λ v. AreTouching problem.now.fans number v.items) }
-{
-    let mut places = Vec::new(alloc);
-    for (place, fan) in problem.fans.as_slice().iter().enumerate() {
-        if fan.touches(number) {
-            places.push(place as u32)?;
-        }
-    }
-    Ok(places)
-}
-
 /// Makes the table that of the empty prefix.
 pub fn clear(problem: &Problem, table: &mut [[u64; 3]])
     requires { length table.old ≡ length problem.now.own }
@@ -149,7 +128,7 @@ pub fn grow(
     let row = &problem.own.as_slice()[number];
     let entry = table[number];
     let due = entry[choice.sharing().rank()];
-    let others = bound - least_by(row, &entry) - lost_sum(problem, touching, number);
+    let others = bound - least_by(row, &entry) - lost_sum(problem, number);
     let total = others + own_cost(row, choice).unwrap_or(0) + due;
     raise(problem, touching, prefix, table, total)
 }

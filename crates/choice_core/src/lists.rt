@@ -1,7 +1,8 @@
 //! A list that contracts see as the list of its elements.
 
-ghost use Rattle.std.specs.Prelude.{◌≡◌};
+ghost use Rattle.std.specs.Prelude.{◌≡◌, ◌++◌, [], ◌∷◌, OnOk, OnErr, IfErr};
 
+use std::alloc::AllocFailed;
 use std::marker::Model;
 
 /// A `Vec` that contracts see as its elements alone, so that equal lists are equal values.
@@ -32,6 +33,15 @@ impl<T> Sequence<T> {
     {
         let Sequence { items } = self;
         items
+    }
+
+    /// Puts one more element behind the others.
+    pub fn push(&mut self, item: T) -> Result<(), AllocFailed<T>>
+        ensures ok { OnOk result (self.new ≡ self.old ++ item ∷ []) }
+        ensures err { OnErr result (self.new ≡ self.old) }
+        ensures returned { IfErr result (λ e. e.value ≡ item) }
+    {
+        self.items.push(item)
     }
 
     pub fn as_slice(&self) -> &[T]

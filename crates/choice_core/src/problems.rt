@@ -1,13 +1,14 @@
 //! Modules with their own costs, and fans with their prices.
 
-ghost use Rattle.std.specs.Prelude.{◌≡◌, ◌*◌, ◌^◌, ◌<◌, ◌≤◌, IsTrue, MatchOption};
+ghost use Rattle.std.specs.Prelude.{◌≡◌, ℕ, ◌*◌, ◌^◌, ◌<◌, ◌≤◌, ◌++◌, [], ◌∷◌, cond, IsTrue, MatchOption, IfOk, OnOk, All, length, filter, replicate, slice_set, slice_index_or};
 ghost use Rattle.choice_core.specs.Bound.{next_from, further};
-ghost use Rattle.choice_core.specs.Growing.{touches};
 ghost use Rattle.choice_core.specs.Choices.{rank};
-ghost use Rattle.choice_core.specs.Problems.{Row, own_of, price_of, sharing_at, is_in, reaches, charge, fan_cost, greatest_price};
+ghost use Rattle.choice_core.specs.Problems.{Row, own_of, price_of, sharing_at, is_in, reaches, charge, fan_cost, greatest_price, touches, IsFan, AreTouching, IsIndexed};
 
 use crate::lists::Sequence;
 use crate::sharings::{Choice, Sharing};
+use hy_bits::Memory;
+use std::alloc::Global;
 
 /// The numbers of a cost table: for products by width (8, 16, 32, 64), for conversions by width
 /// (1, 8, 16, 32, 64), for an AND at B, a level of ANDs at B, and an AND at Y.
@@ -34,11 +35,114 @@ pub struct Fan {
     pub price: [[u64; 3]; 3],
 }
 
-/// For each module its own cost by choice, `None` where the choice isn't allowed, and the fans.
+/// For each module its own cost by choice, `None` where the choice isn't allowed; the fans; and for
+/// each module the numbers of the fans that touch it.
 #[derive(Drop)]
 pub struct Problem {
     pub own: Sequence<[Option<u64>; 4]>,
     pub fans: Sequence<Fan>,
+    pub touching: Sequence<Sequence<u32>>,
+}
+
+/// Puts a fan's number behind those of a module.
+fn add(lists: &mut [Sequence<u32>], number: usize, place: u32) -> Result<(), Memory>
+    requires { number < length lists.old }
+    ensures { OnOk result (lists.new ≡ slice_set lists.old number (slice_index_or lists.old number [] ++ place ∷ [])) }
+{
+    lists[number].push(place)?;
+    Ok(())
+}
+
+/// Puts a fan's number behind those of its producer and of each consumer.
+fn add_fan(lists: &mut [Sequence<u32>], fan: &Fan, place: u32) -> Result<(), Memory>
+    requires { IsFan (length lists.old) fan.now }
+    ensures size { OnOk result (length lists.new ≡ length lists.old) }
+    ensures lists { OnOk result ((m : ℕ) → m < length lists.old → slice_index_or lists.new m [] ≡ slice_index_or lists.old m [] ++ cond (touches fan.now m) (place ∷ []) []) }
+{
+    add(lists, fan.from as usize, place)?;
+    for consumer in fan.to.as_slice() {
+        add(lists, *consumer as usize, place)?;
+    }
+    Ok(())
+}
+
+/// Puts the number of each fan behind those of its producer and of each consumer.
+fn add_fans(lists: &mut [Sequence<u32>], fans: &[Fan]) -> Result<(), Memory>
+    requires fans { All (IsFan (length lists.old)) fans.now }
+    requires few { length fans.now < 2 ^ 32 }
+    requires empty { (m : ℕ) → m < length lists.old → slice_index_or lists.old m [] ≡ [] }
+    ensures size { OnOk result (length lists.new ≡ length lists.old) }
+    ensures numbers { OnOk result ((m : ℕ) → m < length lists.old → AreTouching fans.now m (slice_index_or lists.new m [])) }
+{
+    for (place, fan) in fans.iter().enumerate() {
+        add_fan(lists, fan, place as u32)?;
+    }
+    Ok(())
+}
+
+/// As many lists without numbers.
+fn empty_lists(alloc: Global, count: usize) -> Result<Vec<Sequence<u32>>, Memory>
+    ensures { IfOk result (λ lists. lists.items ≡ replicate count []) }
+{
+    let mut lists = Vec::with_capacity(alloc, count)?;
+    for _ in 0..count {
+        lists.push(Sequence::new(Vec::new(alloc)))?;
+    }
+    Ok(lists)
+}
+
+/// For each of the modules the numbers of the fans that touch it, in order.
+fn touching_lists(alloc: Global, count: usize, fans: &[Fan]) -> Result<Vec<Sequence<u32>>, Memory>
+    requires fans { All (IsFan count) fans.now }
+    requires few { length fans.now < 2 ^ 32 }
+    ensures size { IfOk result (λ lists. length lists.items ≡ count) }
+    ensures numbers { IfOk result (λ lists. (m : ℕ) → m < count → AreTouching fans.now m (slice_index_or lists.items m [])) }
+{
+    let mut lists = empty_lists(alloc, count)?;
+    add_fans(lists.as_mut_slice(), fans)?;
+    Ok(lists)
+}
+
+impl Problem {
+    /// The problem of these modules and fans. The time is linear in all fans' consumers.
+    pub fn of(
+        alloc: Global,
+        own: Sequence<[Option<u64>; 4]>,
+        fans: Sequence<Fan>,
+    ) -> Result<Problem, Memory>
+        requires fans { All (IsFan (length own)) fans }
+        requires few { length fans < 2 ^ 32 }
+        ensures own { IfOk result (λ p. p.own ≡ own) }
+        ensures fans { IfOk result (λ p. p.fans ≡ fans) }
+        ensures touching { IfOk result (λ p. IsIndexed p) }
+    {
+        let lists = touching_lists(alloc, own.as_slice().len(), fans.as_slice())?;
+        Ok(Problem {
+            own,
+            fans,
+            touching: Sequence::new(lists),
+        })
+    }
+
+    /// How many fans touch the module of this number.
+    pub fn touching_count(&self, number: usize) -> usize
+        requires indexed { IsIndexed self.now }
+        requires within { number < length self.now.own }
+        ensures { result ≡ length (filter (λ f. touches f number) self.now.fans) }
+    {
+        self.touching.as_slice()[number].as_slice().len()
+    }
+
+    /// The fan of this place among those that touch the module of this number.
+    pub fn touching_fan(&self, number: usize, place: usize) -> &Fan
+        requires indexed { IsIndexed self.now }
+        requires number { number < length self.now.own }
+        requires place { place < length (filter (λ f. touches f number) self.now.fans) }
+        ensures { result.now ≡ slice_index_or (filter (λ f. touches f number) self.now.fans) place result.now }
+    {
+        let numbers = self.touching.as_slice()[number].as_slice();
+        &self.fans.as_slice()[numbers[place] as usize]
+    }
 }
 
 /// The own cost of a module's choice, by the module's own costs.
@@ -76,18 +180,6 @@ impl Fan {
         ensures { result ≡ price_of self.now from to }
     {
         self.price[from.rank()][to.rank()]
-    }
-
-    /// Whether the module of this number is the producer or a consumer.
-    pub fn touches(&self, number: usize) -> bool
-        ensures { result ≡ touches self.now number }
-    {
-        for consumer in self.to.as_slice() {
-            if *consumer as usize == number {
-                return true;
-            }
-        }
-        self.from as usize == number
     }
 
     /// Whether some consumer has a choice in this sharing.

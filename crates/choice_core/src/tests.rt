@@ -39,7 +39,7 @@ fn row(number: u32, leaves: u32) -> [Option<u64>; 4]
 
 /// Leaves that would like Y and C in turn, each with an edge to a middle module of its own, and
 /// each of these with an edge to the last module.
-fn ladder(alloc: Global, leaves: u32) -> Result<Problem, AllocError>
+fn ladder(alloc: Global, leaves: u32) -> Result<Problem, hy_bits::Memory>
     requires { leaves ≤ 16 }
     ensures problem { IfOk result (λ p. IsProblem p) }
     ensures count { IfOk result (λ p. length p.own ≡ 2 * leaves + 1) }
@@ -55,10 +55,7 @@ fn ladder(alloc: Global, leaves: u32) -> Result<Problem, AllocError>
         fans.push(edge(alloc, leaf, leaves + leaf, count)?)?;
         fans.push(edge(alloc, leaves + leaf, 2 * leaves, count)?)?;
     }
-    Ok(Problem {
-        own: Sequence::new(own),
-        fans: Sequence::new(fans),
-    })
+    Problem::of(alloc, Sequence::new(own), Sequence::new(fans))
 }
 
 /// What the choices cost on the ladder, by its own definition.
@@ -152,27 +149,21 @@ fn compare_bounds(rt: &impl Abort, problem: &Problem, least: &[u64], prefix: &mu
 }
 
 /// Grows the bound along a list of choices, and compares it with the plain one.
-fn compare_growth(
-    rt: &impl Abort,
-    alloc: Global,
-    problem: &Problem,
-    choices: &[Choice],
-    table: &mut [[u64; 3]],
-) -> Result<(), hy_bits::Memory>
+fn compare_growth(rt: &impl Abort, problem: &Problem, choices: &[Choice], table: &mut [[u64; 3]])
     requires problem { IsProblem problem.now }
-    requires few { length problem.now.fans < 2 ^ 32 }
     requires size { length table.old ≡ length problem.now.own }
     requires fits { Fits problem.now.own choices.now }
 {
     clear(problem, table);
     let mut grown = bound(problem, &choices[..0]);
     for count in 0..choices.len() {
-        let places = touching(alloc, problem, count)?;
         let prefix = &choices[..count + 1];
-        grown = grow(problem, places.as_slice(), prefix, table, grown);
+        let before = grown;
+        let places = problem.touching.as_slice()[count].as_slice();
+        grown = grow(problem, places, prefix, table, grown);
         assert_eq!(rt; grown, bound(problem, prefix));
+        assert_eq!(rt; rise(problem, prefix), grown.saturating_sub(before));
     }
-    Ok(())
 }
 
 /// The least cost below each prefix, from those below the prefixes longer by one choice.
@@ -189,12 +180,7 @@ fn one_shorter(alloc: Global, longer: &[u64]) -> Result<Vec<u64>, AllocError> {
 }
 
 /// The costs of all lists on a ladder, and the bounds of all prefixes.
-fn compare_ladder(
-    rt: &impl Abort,
-    alloc: Global,
-    leaves: u32,
-    lists: usize,
-) -> Result<(), AllocError>
+fn compare_ladder(rt: &impl Abort, alloc: Global, leaves: u32, lists: usize) -> Result<(), Fail>
     requires { leaves ≤ 4 }
 {
     let problem = ladder(alloc, leaves)?;
@@ -241,12 +227,11 @@ fn a_ladder_of_sixteen_leaves_costs_eight_at_yao(rt: HostRuntime) -> Result<(), 
 #[test]
 fn a_bound_grows_as_the_plain_one(rt: HostRuntime) -> Result<(), Fail> {
     let problem = ladder(rt.alloc(), 3)?;
-    assert!(rt; problem.fans.as_slice().len() == 6);
     let mut choices = [Choice::Y; 7];
     let mut table = [[0u64; 3]; 7];
     for number in 0..2187 {
         write_list(number, &mut choices);
-        compare_growth(&rt, rt.alloc(), &problem, &choices, &mut table)?;
+        compare_growth(&rt, &problem, &choices, &mut table);
     }
     Ok(())
 }
@@ -254,14 +239,8 @@ fn a_bound_grows_as_the_plain_one(rt: HostRuntime) -> Result<(), Fail> {
 #[test]
 fn a_middle_module_is_touched_by_its_two_edges(rt: HostRuntime) -> Result<(), Fail> {
     let problem = ladder(rt.alloc(), 2)?;
-    assert!(rt; problem.fans.as_slice().len() == 4);
-    assert_eq!(rt;
-        touching(rt.alloc(), &problem, 2)?.as_slice(),
-        [0, 1].as_slice()
-    );
-    assert_eq!(rt;
-        touching(rt.alloc(), &problem, 4)?.as_slice(),
-        [1, 3].as_slice()
-    );
+    let touching = problem.touching.as_slice();
+    assert_eq!(rt; touching[2].as_slice(), [0, 1].as_slice());
+    assert_eq!(rt; touching[4].as_slice(), [1, 3].as_slice());
     Ok(())
 }

@@ -1,4 +1,5 @@
-use Rattle.std.proofs.Common.{arith, sym, ◌∙◌, ◌≤◌, length}
+use Rattle.std.proofs.Common.{◌≡◌, ℕ, ◌+◌, ◌-◌, arith, ap, sym, ◌∙◌, ◌≤◌, length, take}
+use Rattle.choice_core.specs.Bound.{bound_of}
 use Rattle.choice_check.specs.Walks.{IsPath}
 use Rattle.choice_check.proofs.Siblings.{siblings_none, path_shorter, path_more, advance_some, advance_none}
 use Rattle.choice_check.proofs.paths.advance.Goals as goal
@@ -6,7 +7,7 @@ use Rattle.choice_check.proofs.paths.advance.Goals as goal
 pub returns-in-Some-clause-path : goal.returns-in-Some-clause-path
 returns-in-Some-clause-path c =
     let i = c.loop-number.invariant in
-    let good : IsPath c.args.problem.now c.loop-number.path c.args.depth = rw i.1 c.requires in
+    let good : IsPath c.args.problem.now c.loop-number.path c.args.depth = rw i.1 c.requires.path in
     let within = good.within in
     let size = good.size in
     let some = c.loop-number-test.true in
@@ -17,7 +18,7 @@ returns-in-Some-clause-path c =
 pub returns-in-Some-clause-next : goal.returns-in-Some-clause-next
 returns-in-Some-clause-next c =
     let i = c.loop-number.invariant in
-    let good : IsPath c.args.problem.now c.loop-number.path c.args.depth = rw i.1 c.requires in
+    let good : IsPath c.args.problem.now c.loop-number.path c.args.depth = rw i.1 c.requires.path in
     let within = good.within in
     let below = i.2 in
     let inside : c.loop-number.number ≤ length c.loop-number.path = omega (arith, within, below) in
@@ -27,20 +28,51 @@ returns-in-Some-clause-next c =
 pub loop-number-preserved : goal.loop-number-preserved
 loop-number-preserved c =
     let i = c.loop-number.invariant in
-    let good : IsPath c.args.problem.now c.loop-number.path c.args.depth = rw i.1 c.requires in
+    let good : IsPath c.args.problem.now c.loop-number.path c.args.depth = rw i.1 c.requires.path in
     let within = good.within in
     let below = i.2 in
     let inside : c.loop-number.number ≤ length c.loop-number.path = omega (arith, within, below) in
     let none = rw (c.as_slice-rows.ensures, c.place.ensures.is) at c.in_default.ensures.some in
-    (advance_none c.args.problem.now c.loop-number.path c.loop-number.number _ c.loop-number-test.true inside none ∙ i.0, i.1, omega (arith, below))
+    (advance_none c.args.problem.now c.loop-number.path c.loop-number.number _ c.loop-number-test.true inside none ∙ i.0, i.1, omega (arith, below), c.bound_without-left.ensures)
 
 pub returns-clause-path : goal.returns-clause-path
 returns-clause-path c =
     let i = c.loop-number.invariant in
-    let good : IsPath c.args.problem.now c.loop-number.path c.args.depth = rw i.1 c.requires in
+    let good : IsPath c.args.problem.now c.loop-number.path c.args.depth = rw i.1 c.requires.path in
     path_shorter c.args.problem.now c.loop-number.path 0 c.args.depth (omega arith) good
 
 pub returns-clause-next : goal.returns-clause-next
 returns-clause-next c =
     let end = c.loop-number-test.false in
     sym (c.loop-number.invariant.0) ∙ siblings_none c.args.problem.now c.loop-number.path c.loop-number.number (omega (arith, end))
+
+pub bound_without-left-requires-clause-path : goal.bound_without-left-requires-clause-path
+bound_without-left-requires-clause-path c =
+    let i = c.loop-number.invariant in
+    let good : IsPath c.args.problem.now c.loop-number.path c.args.depth = rw i.1 c.requires.path in
+    let some = c.loop-number-test.true in
+    path_shorter c.args.problem.now c.loop-number.path _ c.args.depth (omega (arith, i.2, some)) good
+
+pub bound_without-left-requires-clause-bound : goal.bound_without-left-requires-clause-bound
+bound_without-left-requires-clause-bound c =
+    let i = c.loop-number.invariant in
+    let some = c.loop-number-test.true in
+    let on : c.loop-number.number ≡ c.loop-number.number - 1 + 1 = omega (arith, some) in
+    i.3 ∙ ap (λ (k : ℕ). bound_of c.args.problem.now (take k c.loop-number.path)) on
+
+pub bound_with-requires-clause-path : goal.bound_with-requires-clause-path
+bound_with-requires-clause-path c =
+    let i = c.loop-number.invariant in
+    let good : IsPath c.args.problem.now c.loop-number.path c.args.depth = rw i.1 c.requires.path in
+    let within = good.within in
+    let size = good.size in
+    let some = c.loop-number-test.true in
+    let below = i.2 in
+    let allowed = rw c.as_slice-rows.ensures at c.in-Some.ensures.allowed in
+    path_more c.args.problem.now c.loop-number.path _ c.in-Some.choice (path_shorter c.args.problem.now c.loop-number.path _ c.args.depth (omega (arith, below, some)) good) (omega (arith, within, size, below, some)) allowed
+
+pub returns-clause-bound : goal.returns-clause-bound
+returns-clause-bound c =
+    let end = c.loop-number-test.false in
+    let none : c.loop-number.number ≡ 0 = omega (arith, end) in
+    c.loop-number.invariant.3 ∙ ap (λ (k : ℕ). bound_of c.args.problem.now (take k c.loop-number.path)) none

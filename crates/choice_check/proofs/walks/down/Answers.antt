@@ -29,3 +29,10 @@ returns-clause-path c =
     let inside = rw rows at c.if-walk-rows.false in
     let allowed = rw rows at c.first_choice.ensures.allowed in
     path_more c.args.problem.now c.args.path.now c.args.walk.depth c.first_choice.result c.requires.path inside allowed
+
+pub bound_with-requires-clause-path : goal.bound_with-requires-clause-path
+bound_with-requires-clause-path c =
+    let rows = c.as_slice-rows.ensures in
+    let inside = rw rows at c.if-walk-rows.false in
+    let allowed = rw rows at c.first_choice.ensures.allowed in
+    path_more c.args.problem.now c.args.path.now c.args.walk.depth c.first_choice.result c.requires.path inside allowed

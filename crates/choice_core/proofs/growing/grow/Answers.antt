@@ -27,6 +27,9 @@ overflow_sub-others c =
     let old = rw c.as_slice.ensures at c.least_by.ensures in
     omega (arith, facts.0, old, c.requires.bound)
 
+pub lost_sum-requires-clause-within : goal.lost_sum-requires-clause-within
+lost_sum-requires-clause-within c = let whole = Fits-within c.args.problem.now.own c.args.prefix.now c.requires.fits in omega (arith, whole, c.requires.some)
+
 pub lost_sum-requires-clause-small : goal.lost_sum-requires-clause-small
 lost_sum-requires-clause-small c =
     let facts = grow_facts c.args.problem.now c.requires.problem c.args.prefix.now c.requires.some c.requires.fits c.args.table.now c.requires.table in

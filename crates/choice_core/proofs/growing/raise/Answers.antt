@@ -2,7 +2,7 @@ use Rattle.std.proofs.Common.{◌-◌, subst, refl, arith, length, List}
 use Rattle.std.specs.List.{filter}
 use Rattle.std.proofs.lemmas.List.{take_all}
 use Rattle.choice_core.specs.declared.problems.Fan.{Fan}
-use Rattle.choice_core.specs.Growing.{touches}
+use Rattle.choice_core.specs.Problems.{touches}
 use Rattle.choice_core.proofs.Limits.{bound_small}
 use Rattle.choice_core.proofs.Growth.{IsRaised, touched_within, touched_item, touched_length, touched_fan, raised_none, raised_all, raised_le, raised_total, raised_room, raised_more}
 use Rattle.choice_core.proofs.growing.raise.Goals as goal

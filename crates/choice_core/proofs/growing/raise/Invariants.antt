@@ -1,6 +1,7 @@
 use Rattle.std.proofs.Common.{◌≡◌, ◌+◌, ◌-◌, take, drop, length}
 use Rattle.std.specs.List.{filter}
-use Rattle.choice_core.specs.Growing.{touches, least_sum}
+use Rattle.choice_core.specs.Problems.{touches}
+use Rattle.choice_core.specs.Growing.{least_sum}
 use Rattle.choice_core.proofs.Growth.{IsRaised}
 use Rattle.choice_core.proofs.growing.raise.Given as goal
 

@@ -1,11 +1,16 @@
-use Rattle.std.proofs.Common.{◌≡◌, ◌+◌, ◌*◌, ◌++◌, ◌∷◌, ap, ◌∙◌, arith, []}
+use Rattle.std.proofs.Common.{◌≡◌, ◌+◌, ◌*◌, ◌++◌, ◌∷◌, ◌≢◌, ◌≤◌, List, length, ap, ◌∙◌, arith, []}
 use Rattle.std.proofs.lemmas.List.{length_push}
 use Rattle.std.proofs.lemmas.List.Elements.{All-push, All-weaker}
 use Rattle.std.proofs.lemmas.List.Sums.{sum_by_push}
 use Rattle.choice_core.specs.declared.sharings.Choice.TheVariants.{Y}
 use Rattle.choice_core.specs.declared.problems.Fan.{Fan}
-use Rattle.choice_core.specs.Problems.{HasChoice, IsFan, greatest_own, greatest_price}
+use Rattle.choice_core.specs.Problems.{HasChoice, Fits, IsFan, greatest_own, greatest_price}
 use Rattle.choice_core.proofs.Ladders.{AllowsOthers, others_fit}
+use Rattle.choice_core.proofs.Parts.{problem_of_parts}
+use Rattle.std.proofs.lemmas.Result.{IfOk-weaker}
+use Rattle.std.specs.List.{All}
+use Rattle.choice_core.specs.declared.sharings.Choice.{Choice}
+use Rattle.choice_core.specs.declared.sharings.Choice.TheVariants.{A}
 use Rattle.choice_core.proofs.tests.ladder.Goals as goal
 
 pub loop-number-preserved : goal.loop-number-preserved
@@ -33,6 +38,7 @@ loop-leaf-preserved c =
     rw (second, first) (
       All-push (IsFan n) (before ++ one ∷ []) two (All-push (IsFan n) before one i.0 c.in_ok-edge.ensures.fan) c.in_ok-edge-2.ensures.fan,
       omega (arith, sum_one, sum_two, i.1, c.in_ok-edge.ensures.price, c.in_ok-edge-2.ensures.price),
+      length_push (before ++ one ∷ []) two ∙ ap (λ n. n + 1) (length_push before one) ∙ omega (arith, i.2),
     )
 
 pub returns-clause-problem : goal.returns-clause-problem
@@ -41,11 +47,22 @@ returns-clause-problem c =
     let fans = c.loop-leaf.invariant in
     let count : c.loop-number.number ≡ 2 * c.args.leaves + 1 = omega arith in
     let leaves : c.loop-leaf.leaf ≡ c.args.leaves = omega arith in
-    rw (c.new.ensures, c.new-2.ensures) (record {
-      choices = All-weaker AllowsOthers HasChoice (λ row allows. (Y, allows Y (λ e. cc))) c.loop-number.own.items own.1;
-      fans = rw (own.0 ∙ count) fans.0;
-      small = omega (arith, own.2, fans.1, count, leaves, c.requires);
-    })
+    problem_of_parts c.of.result _ _ (rw c.new.ensures at c.of.ensures.own) (rw c.new-2.ensures at c.of.ensures.fans) c.of.ensures.touching
+    (All-weaker AllowsOthers HasChoice (λ row allows. (Y, allows Y (λ e. cc))) c.loop-number.own.items own.1)
+    (rw (own.0 ∙ count) fans.0)
+    (omega (arith, own.2, fans.1, count, leaves, c.requires))
 
 pub returns-clause-boolean : goal.returns-clause-boolean
-returns-clause-boolean c = rw c.new.ensures (others_fit c.loop-number.own.items c.loop-number.invariant.1)
+returns-clause-boolean c = IfOk-weaker c.of.result (λ p. p.own ≡ c.loop-number.own.items) (λ p. (cs : List Choice) → All (λ d. d ≢ A) cs → length cs ≤ length p.own → Fits p.own cs) (λ p is. rw is (others_fit c.loop-number.own.items c.loop-number.invariant.1)) (rw c.new.ensures at c.of.ensures.own)
+
+pub returns-clause-count : goal.returns-clause-count
+returns-clause-count c =
+    let own = c.loop-number.invariant in
+    let count : c.loop-number.number ≡ 2 * c.args.leaves + 1 = omega arith in
+    IfOk-weaker c.of.result (λ p. p.own ≡ c.loop-number.own.items) (λ p. length p.own ≡ 2 * c.args.leaves + 1) (λ p is. rw is (own.0 ∙ count)) (rw c.new.ensures at c.of.ensures.own)
+
+pub of-requires-clause-fans : goal.of-requires-clause-fans
+of-requires-clause-fans c =
+    let own = c.loop-number.invariant in
+    let count : c.loop-number.number ≡ 2 * c.args.leaves + 1 = omega arith in
+    rw (c.new.ensures, c.new-2.ensures, own.0 ∙ count) c.loop-leaf.invariant.0

@@ -11,4 +11,4 @@ invariant-loop-number l = (length l.own.items ≡ l.number) × All (λ (row : Ro
 
 -- the fans so far are fans, two for each leaf, and cost 1000 each
 abbrev pub invariant-loop-leaf : goal.invariant-loop-leaf
-invariant-loop-leaf l = All (IsFan l.count) l.fans.items × (sum_by (λ f. 2 * greatest_price f) l.fans.items ≡ 4000 * l.leaf)
+invariant-loop-leaf l = All (IsFan l.count) l.fans.items × (sum_by (λ f. 2 * greatest_price f) l.fans.items ≡ 4000 * l.leaf) × (length l.fans.items ≡ 2 * l.leaf)
