@@ -1,0 +1,272 @@
+ghost use Rattle.std.specs.Prelude.{◌≡◌, ◌<◌, ◌≤◌, IfOk};
+ghost use Rattle.choice_core.specs.declared.sharings.Sharing.{Sharing};
+ghost use Rattle.choice_core.specs.declared.problems.Fan.{Fan};
+ghost use Rattle.choice_core.specs.Problems.{HasChoice, IsFan, IsProblem, price_of, greatest_own, greatest_price};
+
+use crate::{SearchFault, best};
+use choice_core::{Choice, Fan, Problem, Sequence, TreeNode, cost};
+use hy_bits::Memory;
+use std::alloc::{AllocError, Global};
+use std::process::Abort;
+use std::test::Fail;
+
+const CHOICES: [Choice; 4] = [Choice::A, Choice::Y, Choice::C, Choice::S];
+
+/// The tree for `three`: the five branches are the empty prefix, Y, C, S, and S with Y.
+const THREE: [TreeNode; 16] = [
+    TreeNode::Branch,
+    TreeNode::Branch,
+    TreeNode::Leaf(2),
+    TreeNode::Leaf(2),
+    TreeNode::Leaf(2),
+    TreeNode::Branch,
+    TreeNode::Leaf(2),
+    TreeNode::Leaf(2),
+    TreeNode::Leaf(2),
+    TreeNode::Branch,
+    TreeNode::Branch,
+    TreeNode::Leaf(1),
+    TreeNode::Leaf(1),
+    TreeNode::Leaf(1),
+    TreeNode::Leaf(1),
+    TreeNode::Leaf(1),
+];
+
+/// A fan with one consumer, or two.
+fn fan(
+    alloc: Global,
+    from: u32,
+    to: u32,
+    last: u32,
+    price: [[u64; 3]; 3],
+    count: u32,
+) -> Result<Fan, AllocError>
+    requires below { from < to }
+    requires within { to < count }
+    requires last { last < count }
+    requires free { (f : Fan) → f.price ≡ price → (s : Sharing) → price_of f s s ≡ 0 }
+    ensures fan { IfOk result (λ f. IsFan count f) }
+    ensures price { IfOk result (λ f. f.price ≡ price) }
+{
+    let mut consumers = Vec::new(alloc);
+    consumers.push(to)?;
+    if last > to {
+        consumers.push(last)?;
+    }
+    Ok(Fan {
+        from,
+        to: Sequence::new(consumers),
+        price,
+    })
+}
+
+/// The own costs of a module of `ladder`.
+fn ladder_row(number: u32, leaves: u32) -> [Option<u64>; 4]
+    ensures greatest { greatest_own result ≡ 1000 }
+    ensures some { HasChoice result }
+{
+    if number >= leaves {
+        [None, Some(0), Some(0), Some(1000)]
+    } else if number % 2 == 0 {
+        [None, Some(0), Some(1), Some(1000)]
+    } else {
+        [None, Some(1), Some(0), Some(1000)]
+    }
+}
+
+/// Leaves that would like Y and C in turn, each with an edge to a middle module of its own, and
+/// each of these with an edge to the last module.
+fn ladder(alloc: Global, leaves: u32) -> Result<Problem, Memory>
+    requires { leaves ≤ 20 }
+    ensures { IfOk result (λ p. IsProblem p) }
+{
+    let count = 2 * leaves + 1;
+    let mut own = Vec::new(alloc);
+    for number in 0..count {
+        own.push(ladder_row(number, leaves))?;
+    }
+    let price = [[0, 0, 0], [0, 0, 1000], [0, 1000, 0]];
+    let mut fans = Vec::new(alloc);
+    for leaf in 0..leaves {
+        fans.push(fan(alloc, leaf, leaves + leaf, 0, price, count)?)?;
+        fans.push(fan(alloc, leaves + leaf, 2 * leaves, 0, price, count)?)?;
+    }
+    Problem::of(alloc, Sequence::new(own), Sequence::new(fans))
+}
+
+/// Three modules without A, and one fan that costs 1 from Y to B.
+fn three(alloc: Global) -> Result<Problem, Memory>
+    ensures { IfOk result (λ p. IsProblem p) }
+{
+    let mut own = Vec::new(alloc);
+    own.push([None, Some(1), Some(1), Some(0)])?;
+    own.push([None, Some(0), Some(1), Some(1)])?;
+    own.push([None, Some(1), Some(0), Some(0)])?;
+    let price = [[0, 0, 0], [0, 0, 0], [0, 1, 0]];
+    let mut fans = Vec::new(alloc);
+    fans.push(fan(alloc, 1, 2, 0, price, 3)?)?;
+    Problem::of(alloc, Sequence::new(own), Sequence::new(fans))
+}
+
+/// The own costs of a module by a seed: at most 3, and Y is always allowed.
+fn small_row(seed: u64) -> [Option<u64>; 4]
+    ensures greatest { greatest_own result ≤ 3 }
+    ensures some { HasChoice result }
+{
+    let first = if seed % 3 == 0 {
+        None
+    } else {
+        Some(seed / 3 % 4)
+    };
+    let last = if seed / 13 % 3 == 0 {
+        None
+    } else {
+        Some(seed / 39 % 4)
+    };
+    [first, Some(seed / 256 % 4), Some(seed / 1024 % 4), last]
+}
+
+/// Prices by a seed, at most 3.
+fn small_price(seed: u64) -> [[u64; 3]; 3]
+    ensures free { (f : Fan) → f.price ≡ result → (s : Sharing) → price_of f s s ≡ 0 }
+    ensures greatest { (f : Fan) → f.price ≡ result → greatest_price f ≤ 3 }
+{
+    [
+        [0, seed % 4, seed / 4 % 4],
+        [seed / 16 % 4, 0, seed / 64 % 4],
+        [seed / 256 % 4, seed / 1024 % 4, 0],
+    ]
+}
+
+/// Four modules and five fans by a seed.
+fn small(rt: &impl Abort, alloc: Global, seed: u64) -> Result<Problem, Memory>
+    ensures { IfOk result (λ p. IsProblem p) }
+{
+    let mut own = Vec::new(alloc);
+    let mut random = seed;
+    for _ in 0..4usize {
+        random = random
+            .wrapping_mul(6364136223846793005)
+            .wrapping_add(1442695040888963407);
+        own.push(small_row(random >> 40))?;
+    }
+    let mut fans = Vec::new(alloc);
+    for (from, to, last) in [(0, 1, 2), (0, 3, 3), (1, 2, 3), (1, 3, 3), (2, 3, 3)] {
+        random = random
+            .wrapping_mul(6364136223846793005)
+            .wrapping_add(1442695040888963407);
+        assert!(rt; from < to && to < 4 && last < 4);
+        fans.push(fan(alloc, from, to, last, small_price(random >> 40), 4)?)?;
+    }
+    Problem::of(alloc, Sequence::new(own), Sequence::new(fans))
+}
+
+/// The choices of this number, the first module's by the highest digit.
+fn list_of(number: usize) -> [Choice; 4] {
+    [
+        CHOICES[number / 64 % 4],
+        CHOICES[number / 16 % 4],
+        CHOICES[number / 4 % 4],
+        CHOICES[number % 4],
+    ]
+}
+
+/// The place of a sharing of a choice among prices.
+fn rank(choice: Choice) -> usize
+    ensures { result < 3 }
+{
+    match choice {
+        Choice::A => 0,
+        Choice::C | Choice::S => 1,
+        Choice::Y => 2,
+    }
+}
+
+/// What a fan costs, by its own definition.
+fn plain_fan(fan: &Fan, choices: &[Choice; 4]) -> u64 {
+    let from = rank(choices.get(fan.from as usize).copied().unwrap_or(Choice::A));
+    let mut reached = [false; 3];
+    for consumer in fan.to.as_slice() {
+        let to = choices
+            .get(*consumer as usize)
+            .copied()
+            .unwrap_or(Choice::A);
+        reached[rank(to)] = true;
+    }
+    let mut total = 0u64;
+    for to in 0..3 {
+        if reached[to] && to != from {
+            total = total.saturating_add(fan.price[from][to]);
+        }
+    }
+    total
+}
+
+/// What the choices cost, by its own definition, if they are allowed.
+fn plain_cost(problem: &Problem, choices: &[Choice; 4]) -> Option<u64> {
+    let mut total = 0u64;
+    for (row, choice) in problem.own.as_slice().iter().zip(choices.iter()) {
+        total = total.saturating_add(row[choice.place()]?);
+    }
+    for fan in problem.fans.as_slice() {
+        total = total.saturating_add(plain_fan(fan, choices));
+    }
+    Some(total)
+}
+
+/// The first list of least cost, and that cost, by a walk over all lists.
+fn plain_best(problem: &Problem) -> ([Choice; 4], u64) {
+    let mut least = u64::MAX;
+    let mut list = list_of(0);
+    for number in 0..256 {
+        let choices = list_of(number);
+        if let Some(found) = plain_cost(problem, &choices) {
+            if found < least {
+                least = found;
+                list = choices;
+            }
+        }
+    }
+    (list, least)
+}
+
+#[test]
+fn the_first_list_of_least_cost_is_found(rt: HostRuntime) -> Result<(), Fail> {
+    for seed in 0..300 {
+        let problem = small(&rt, rt.alloc(), seed)?;
+        let (choices, _tree) = best(rt.alloc(), &problem)?;
+        let (list, least) = plain_best(&problem);
+        assert_eq!(rt; choices.as_slice(), list.as_slice());
+        assert_eq!(rt; cost(&problem, choices.as_slice()), least);
+    }
+    Ok(())
+}
+
+#[test]
+fn ties_go_by_the_first_choices(rt: HostRuntime) -> Result<(), Fail> {
+    let problem = three(rt.alloc())?;
+    let (choices, tree) = best(rt.alloc(), &problem)?;
+    assert_eq!(rt;
+        choices.as_slice(),
+        [Choice::S, Choice::Y, Choice::Y].as_slice()
+    );
+    assert_eq!(rt; tree.nodes.as_slice(), THREE.as_slice());
+    Ok(())
+}
+
+#[test]
+fn a_ladder_of_sixteen_leaves_takes_its_branches(rt: HostRuntime) -> Result<(), Fail> {
+    let problem = ladder(rt.alloc(), 16)?;
+    let (choices, tree) = best(rt.alloc(), &problem)?;
+    assert_eq!(rt; choices.as_slice(), [Choice::Y; 33].as_slice());
+    assert_eq!(rt; cost(&problem, choices.as_slice()), 8);
+    assert_eq!(rt; tree.nodes.as_slice().len(), 352777);
+    Ok(())
+}
+
+#[test]
+fn a_ladder_of_twenty_leaves_has_too_many(rt: HostRuntime) -> Result<(), Fail> {
+    let problem = ladder(rt.alloc(), 20)?;
+    assert!(rt; matches!(best(rt.alloc(), &problem), Err(SearchFault::BranchLimit)));
+    Ok(())
+}
