@@ -1,0 +1,6 @@
+pub mod Wiring
+pub mod Paths
+pub mod Values
+pub mod Change
+pub mod Order
+pub mod Inside
