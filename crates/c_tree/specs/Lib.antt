@@ -1,2 +1,9 @@
+pub mod Expressions
+pub mod Grammar
 pub mod Names
+pub mod Operators
+pub mod Pieces
+pub mod Programs
+pub mod Statements
 pub mod TokenLists
+pub mod TypeWords

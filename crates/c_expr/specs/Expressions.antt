@@ -1,0 +1,146 @@
+-- How expressions are read (C11 6.5): each reader is told how many levels of nesting are left, and at most how many tokens a list
+-- has. What is nested in an expression is read by readers with one level less.
+use Rattle.std.specs.Prelude.{ℕ, zero, suc, ◌-◌, List, [], ◌∷◌, codes}
+use Rattle.c_tree.specs.declared.token.Place.{Place}
+use Rattle.c_tree.specs.declared.token.TokenKind.TheVariants.{Name}
+use Rattle.c_tree.specs.declared.expressions.Named.{Named}
+use Rattle.c_tree.specs.declared.expressions.Expr.{Expr}
+use Rattle.c_tree.specs.declared.expressions.Expr.TheVariants as expr
+use Rattle.c_tree.specs.declared.expressions.Expr.TheViews.{roll-Operand}
+use Rattle.c_tree.specs.declared.expressions.Operand.{Operand}
+use Rattle.c_tree.specs.declared.expressions.Specs.{Specs}
+use Rattle.c_tree.specs.declared.expressions.Suffix.{Suffix}
+use Rattle.c_tree.specs.declared.expressions.Suffix.TheVariants as suffix
+use Rattle.c_expr.specs.Reading.{Reader, ◌>>=◌, give, take_as, choose, many}
+use Rattle.c_expr.specs.Tokens.{is_mark, is_kind, is_prefix, prefix_at, is_literal, literal_at, is_operator, operator_at, is_suffix, starts_type, read_mark, read_mark_at, read_name}
+
+-- readers of what is nested, where so many levels are left
+pub record Inner : Type 0 where
+  pub left : ℕ
+  pub unary : Reader Expr
+  pub expr : Reader Expr
+  pub specs : Reader Specs
+
+-- parts with a mark between each two of them, one at least
+unfoldable pub separated_by : {A : Type 0} → ℕ → List ℕ → ℕ → Reader A → Reader (List A)
+separated_by size text left read = do
+  first ← read
+  rest ← many size (is_mark text) (read_mark text left >>= λ separator. read)
+  give (first ∷ rest)
+
+-- arguments behind an opening bracket
+unfoldable pub read_arguments : ℕ → Inner → Reader (List Expr)
+read_arguments size inner = choose (is_mark (codes ")")) (give []) (separated_by size (codes ",") inner.left inner.expr)
+
+unfoldable pub read_call : ℕ → ℕ → Inner → Named → Reader Expr
+read_call size left inner name = do
+  place ← read_mark_at (codes "(") left
+  arguments ← read_arguments size inner
+  closing ← read_mark (codes ")") left
+  give (expr.Call name place arguments)
+
+-- a name or a call
+unfoldable pub read_named : ℕ → ℕ → Inner → Reader Expr
+read_named size left inner = do
+  name ← read_name left
+  choose (is_mark (codes "(")) (read_call size left inner name) (give (expr.Name name))
+
+unfoldable pub read_literal : ℕ → Reader Expr
+read_literal left = do
+  found ← take_as is_literal literal_at left
+  give (expr.Literal found.0 found.1)
+
+unfoldable pub read_index : ℕ → Inner → Reader Suffix
+read_index left inner = do
+  place ← read_mark_at (codes "[") left
+  index ← inner.expr
+  closing ← read_mark (codes "]") left
+  give (suffix.Index place index)
+
+unfoldable pub read_member : ℕ → Reader Suffix
+read_member left = do
+  place ← read_mark_at (codes ".") left
+  name ← read_name left
+  give (suffix.Member place name)
+
+unfoldable pub read_arrow : ℕ → Reader Suffix
+read_arrow left = do
+  place ← read_mark_at (codes "->") left
+  name ← read_name left
+  give (suffix.Arrow place name)
+
+unfoldable pub read_suffix : ℕ → Inner → Reader Suffix
+read_suffix left inner = choose (is_mark (codes "[")) (read_index left inner) (choose (is_mark (codes ".")) (read_member left) (read_arrow left))
+
+abbrev pub postfixed : Expr → List Suffix → Expr
+postfixed primary [] = primary
+postfixed primary (first ∷ rest) = expr.Postfix primary (first ∷ rest)
+
+-- what stands behind a primary expression
+unfoldable pub read_behind : ℕ → ℕ → Inner → Expr → Reader Expr
+read_behind size left inner primary = do
+  suffixes ← many size is_suffix (read_suffix left inner)
+  give (postfixed primary suffixes)
+
+unfoldable pub read_primary : ℕ → ℕ → Inner → Reader Expr
+read_primary size left inner = choose (is_kind Name) (read_named size left inner) (read_literal left) >>= read_behind size left inner
+
+unfoldable pub read_cast : ℕ → Inner → Place → Reader Expr
+read_cast left inner place = do
+  specs ← inner.specs
+  closing ← read_mark (codes ")") left
+  operand ← inner.unary
+  give (expr.Cast place specs operand)
+
+unfoldable pub read_group : ℕ → Inner → Place → Reader Expr
+read_group left inner place = do
+  value ← inner.expr
+  closing ← read_mark (codes ")") left
+  give (expr.Group place value)
+
+unfoldable pub read_bracketed : ℕ → ℕ → Inner → Reader Expr
+read_bracketed size left inner = do
+  place ← read_mark_at (codes "(") left
+  choose starts_type (read_cast left inner place) (read_group left inner place >>= read_behind size left inner)
+
+unfoldable pub read_prefixed : ℕ → Inner → Reader Expr
+read_prefixed left inner = do
+  found ← take_as is_prefix prefix_at left
+  operand ← inner.unary
+  give (expr.Prefix found.0 found.1 operand)
+
+unfoldable pub read_unary : ℕ → ℕ → Inner → Reader Expr
+read_unary size left inner =
+    choose is_prefix (read_prefixed left inner) (choose (is_mark (codes "(")) (read_bracketed size left inner) (read_primary size left inner))
+
+-- an operand behind its operator
+unfoldable pub read_operand : ℕ → ℕ → Reader Expr → Reader Operand
+read_operand level left read = do
+  found ← take_as (is_operator level) operator_at left
+  value ← read
+  give (roll-Operand (record { place = found.0; operator = found.1; value = value }))
+
+abbrev pub chained : Expr → List Operand → Expr
+chained first [] = first
+chained first (second ∷ rest) = expr.Chain first (second ∷ rest)
+
+-- the chains of so many levels above the unary expressions
+unfoldable pub read_chain : ℕ → ℕ → ℕ → Inner → Reader Expr
+read_chain zero size left inner = read_unary size left inner
+read_chain (suc above) size left inner = do
+  first ← read_chain above size left inner
+  rest ← many size (is_operator (10 - above)) (read_operand (10 - above) left (read_chain above size left inner))
+  give (chained first rest)
+
+unfoldable pub read_choice : ℕ → Inner → Expr → Reader Expr
+read_choice left inner condition = do
+  place ← read_mark_at (codes "?") left
+  second ← inner.expr
+  colon ← read_mark (codes ":") left
+  third ← inner.expr
+  give (expr.Conditional condition place second third)
+
+unfoldable pub read_expr : ℕ → ℕ → Inner → Reader Expr
+read_expr size left inner = do
+  condition ← read_chain 10 size left inner
+  choose (is_mark (codes "?")) (read_choice left inner condition) (give condition)

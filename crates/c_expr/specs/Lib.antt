@@ -1,0 +1,5 @@
+pub mod Expressions
+pub mod Levels
+pub mod Reading
+pub mod Tokens
+pub mod Types

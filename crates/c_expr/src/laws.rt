@@ -1,0 +1,19 @@
+ghost use Rattle.std.specs.Prelude.{◌≡◌, ℕ, List, true};
+ghost use Rattle.c_tree.specs.Pieces.{Fits};
+ghost use Rattle.c_tree.specs.Expressions.{wants_of_expr, wants_of_specs};
+ghost use Rattle.c_tree.specs.Grammar.{binds, are_specs};
+ghost use Rattle.c_tree.specs.declared.token.Token.{Token};
+ghost use Rattle.c_tree.specs.declared.expressions.Expr.{Expr};
+ghost use Rattle.c_tree.specs.declared.expressions.Specs.{Specs};
+
+/// A list of tokens spells one expression at most, however deeply it is nested. The law has an empty body.
+#[tactic(auto, using(crate::proofs::Oneness::one_expr))]
+pub fn one_expression()
+    ensures { (nesting : ℕ) (a b : Expr) (tokens : List Token) → binds a 0 ≡ true → binds b 0 ≡ true → Fits (wants_of_expr a nesting) tokens → Fits (wants_of_expr b nesting) tokens → a ≡ b }
+{}
+
+/// A list of tokens spells one type at most. The law has an empty body.
+#[tactic(auto, using(crate::proofs::Oneness::one_specs))]
+pub fn one_type()
+    ensures { (nesting : ℕ) (a b : Specs) (tokens : List Token) → are_specs a ≡ true → are_specs b ≡ true → Fits (wants_of_specs a nesting) tokens → Fits (wants_of_specs b nesting) tokens → a ≡ b }
+{}
