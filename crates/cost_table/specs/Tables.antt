@@ -57,18 +57,6 @@ numbers_of d = group_of (codes "a_mul") product_widths d >>= λ a_mul. conversio
 
 -- ---- members that a table has not
 
--- the least member of an object whose name is none of these: members stand in the order of their keys' bytes
-unfoldable pub first_extra : List (List ℕ) → Members → Option (List ℕ)
-first_extra names no_members = None
-first_extra names (member k d ms) = cond (is_known names k) (first_extra names ms) (Some k)
-
-abbrev pub extra_of : List (List ℕ) → Data → Option (List ℕ)
-extra_of names d = option_and_then (first_extra names) (as_object d)
-
--- the least extra member inside the object of a group, by its full name
-abbrev pub extra_inside : List ℕ → List (List ℕ) → Data → Option (List ℕ)
-extra_inside group names table = option_map (full_name group) (option_and_then (extra_of names) (get group table))
-
 -- of two names the one that is less by bytes
 unfoldable pub lesser_of : List ℕ → List ℕ → List ℕ
 lesser_of a b = cond (is_lt (slice_cmp nat_cmp b a)) b a
@@ -77,6 +65,18 @@ abbrev pub lesser : Option (List ℕ) → Option (List ℕ) → Option (List ℕ
 lesser None b = b
 lesser (Some a) None = Some a
 lesser (Some a) (Some b) = Some (lesser_of a b)
+
+-- of the members whose name is none of these, the least name by bytes
+unfoldable pub least_among : List (List ℕ) → Members → Option (List ℕ)
+least_among names no_members = None
+least_among names (member k d ms) = cond (is_known names k) (least_among names ms) (lesser (Some k) (least_among names ms))
+
+abbrev pub extra_of : List (List ℕ) → Data → Option (List ℕ)
+extra_of names d = option_and_then (least_among names) (as_object d)
+
+-- the least extra member inside the object of a group, by its full name
+abbrev pub extra_inside : List ℕ → List (List ℕ) → Data → Option (List ℕ)
+extra_inside group names table = option_map (full_name group) (option_and_then (extra_of names) (get group table))
 
 -- the least of all extra members
 unfoldable pub least_extra : Data → Option (List ℕ)

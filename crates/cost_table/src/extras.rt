@@ -4,7 +4,7 @@ ghost use Rattle.std.specs.Ordering.{is_lt, nat_cmp};
 ghost use Rattle.std.specs.Cmp.Lexicographic.{slice_cmp};
 ghost use Rattle.serde_json.specs.View.{view, members_view};
 ghost use Rattle.cost_table.specs.Names.{names_of, table_names};
-ghost use Rattle.cost_table.specs.Tables.{extra_of, extra_inside, lesser, lesser_of, least_extra, first_extra};
+ghost use Rattle.cost_table.specs.Tables.{extra_of, extra_inside, lesser, lesser_of, least_extra, least_among};
 
 use crate::names::{Names, full_name};
 use hy_bits::{Memory, Text};
@@ -84,7 +84,7 @@ fn extra_of(object: &Value, names: Names) -> Option<&str>
 
 /// The least of these members that has none of these names: they stand in the order of their keys.
 fn first_extra(members: &Map<String, Value>, names: Names) -> Option<&str>
-    ensures { option_copied result ≡ first_extra (names_of names) (members_view members.now.entries) }
+    ensures { option_copied result ≡ least_among (names_of names) (members_view members.now.entries) }
 {
     for name in members.keys() {
         if !names.holds(name.as_str()) {

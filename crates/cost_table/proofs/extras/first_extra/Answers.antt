@@ -4,7 +4,7 @@ use Rattle.cost_table.proofs.Keys.{first_unknown, first_of_keys, passed_key, fou
 use Rattle.cost_table.proofs.extras.first_extra.Goals as goal
 
 pub loop-name-init : goal.loop-name-init
-loop-name-init c = (ap (first_unknown (names_of c.args.names)) (c.into_iter-name-iterator.ensures.into_iter_gives ∙ c.keys-name-items.ensures.rest) ∙ first_of_keys _ _, tt, tt)
+loop-name-init c = (ap (first_unknown (names_of c.args.names)) (c.into_iter-name-iterator.ensures.into_iter_gives ∙ c.keys-name-items.ensures.rest) ∙ first_of_keys _ _ c.keys-name-items.ensures.ordered, tt, tt)
 
 pub returns-then-not-holds : goal.returns-then-not-holds
 returns-then-not-holds c =
