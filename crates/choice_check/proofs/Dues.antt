@@ -186,17 +186,6 @@ pub record IsBehind (p : Problem) (cs : List Choice) (nodes : List TreeNode) (pa
   pub faults : (fault : TreeFault) → IsFaultFrom p cs number dues (drop number nodes) fault → IsFaultFrom p cs 0 (root ∷ []) nodes fault
   pub closes : ClosesAll p cs (prefixes dues) (drop number nodes) → ClosesAll p cs ([] ∷ []) nodes
 
-pub behind_more : (p : Problem) (cs : List Choice) (nodes : List TreeNode) (path path' : List Choice) (walk walk' : Walk) (number : ℕ) (node : TreeNode) → number < length nodes → node ≡ get_or nodes number node → IsBehind p cs nodes path walk number → GoesOn p cs number node path walk path' walk' → IsBehind p cs nodes path' walk' (number + 1)
-behind_more p cs nodes path path' walk walk' number node within is behind goes =
-    let on = goes behind.dues behind.walks in
-    let split : drop number nodes ≡ node ∷ drop (number + 1) nodes = drop_more nodes number node within ∙ ap (λ (n : TreeNode). n ∷ drop (number + 1) nodes) (sym is) in
-    record {
-      dues = on.0;
-      walks = on.1;
-      faults = λ fault h. behind.faults fault (rw split (on.2 (drop (number + 1) nodes) fault h));
-      closes = λ h. behind.closes (rw split (on.3 (drop (number + 1) nodes) h));
-    }
-
 pub behind_fault : (p : Problem) (cs : List Choice) (nodes : List TreeNode) (path : List Choice) (walk : Walk) (number : ℕ) (node d : TreeNode) (fault : TreeFault) → number < length nodes → node ≡ get_or nodes number d → IsBehind p cs nodes path walk number → Stops p cs number node path walk fault → IsFaultFrom p cs 0 (root ∷ []) nodes fault
 behind_fault p cs nodes path walk number node d fault within is behind stops =
     let split : drop number nodes ≡ node ∷ drop (number + 1) nodes = drop_more nodes number d within ∙ ap (λ (n : TreeNode). n ∷ drop (number + 1) nodes) (sym is) in

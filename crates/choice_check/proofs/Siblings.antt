@@ -1,47 +1,15 @@
 -- The allowed choices in order, and the siblings of a path.
-use Rattle.std.proofs.Common.{◌≡◌, ℕ, zero, suc, ◌+◌, ◌-◌, ◌<◌, ◌≤◌, ltb, refl, sym, ◌∙◌, ap, true, false, cond, List, [], ◌∷◌, ◌++◌, length, take, drop, set, get_or, None, IsSome, arith, length-take-le}
-use Rattle.std.specs.Option.{is_some}
+use Rattle.std.proofs.Common.{◌≡◌, ℕ, zero, suc, ◌+◌, ◌-◌, ◌<◌, ◌≤◌, ltb, refl, sym, ◌∙◌, ap, true, cond, List, [], ◌∷◌, ◌++◌, length, take, drop, set, get_or, IsSome, arith, length-take-le}
 use Rattle.std.proofs.lemmas.Bool.Decides.{nat_tests}
-use Rattle.std.proofs.lemmas.List.{drop_more, drop_all, take-set, take-set-le, take_more_set, get_or-set_same, get_or-set_other, length-set}
+use Rattle.std.proofs.lemmas.List.{drop_more, take-set, take-set-le, take_more_set, get_or-set_same, get_or-set_other, length-set}
 use Rattle.choice_core.specs.declared.sharings.Choice.{Choice}
-use Rattle.choice_core.specs.declared.sharings.Choice.TheVariants.{A, Y, C, S}
+use Rattle.choice_core.specs.declared.sharings.Choice.TheVariants.{A}
 use Rattle.choice_core.specs.declared.problems.Problem.{Problem}
 use Rattle.choice_core.specs.Choices.{place}
 use Rattle.choice_core.specs.Problems.{Row, own_of, Fits}
 use Rattle.choice_core.specs.Least.{children}
 use Rattle.choice_core.proofs.Sums.{Fits-append}
 use Rattle.choice_check.specs.Walks.{choices_from, row_of, with_choices, siblings, IsPath}
-
-pub choices_end : (row : Row) (k : ℕ) → 4 ≤ k → choices_from row k ≡ []
-choices_end row k past = rw (drop_all k (A ∷ Y ∷ C ∷ S ∷ []) past) refl
-
-found : (row : Row) (c : Choice) → is_some (own_of row c) ≡ true → choices_from row (place c) ≡ c ∷ choices_from row (place c + 1)
-found row A is = rw is refl
-found row Y is = rw is refl
-found row C is = rw is refl
-found row S is = rw is refl
-
-pub choices_found : (row : Row) (c : Choice) (k : ℕ) → place c ≡ k → is_some (get_or row k None) ≡ true → choices_from row k ≡ c ∷ choices_from row (place c + 1)
-choices_found row c k at is = ap (choices_from row) (sym at) ∙ found row c (ap (λ (j : ℕ). is_some (get_or row j None)) at ∙ is)
-
-missed : (row : Row) (c : Choice) → is_some (own_of row c) ≡ false → choices_from row (place c) ≡ choices_from row (place c + 1)
-missed row A is = rw is refl
-missed row Y is = rw is refl
-missed row C is = rw is refl
-missed row S is = rw is refl
-
-at_place : (k : ℕ) → k < 4 → (c : Choice) × (place c ≡ k)
-at_place zero within = (A, refl)
-at_place (suc zero) within = (Y, refl)
-at_place (suc (suc zero)) within = (C, refl)
-at_place (suc (suc (suc zero))) within = (S, refl)
-at_place (suc (suc (suc (suc k)))) within = absurd (omega (arith, within))
-
-pub choices_missed : (row : Row) (k : ℕ) → k < 4 → is_some (get_or row k None) ≡ false → choices_from row (k + 1) ≡ choices_from row k
-choices_missed row k within is =
-    let c = at_place k within in
-    let none = missed row c.0 (ap (λ (j : ℕ). is_some (get_or row j None)) c.1 ∙ is) in
-    sym (ap (choices_from row) (sym c.1) ∙ none ∙ ap (λ (j : ℕ). choices_from row (j + 1)) c.1)
 
 -- siblings look at the path's first choices alone
 pub siblings_set : (p : Problem) (path : List Choice) (k d : ℕ) (c : Choice) → k ≤ d → siblings p (set path d c) k ≡ siblings p path k

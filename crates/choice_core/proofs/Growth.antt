@@ -1,27 +1,33 @@
--- How a bound and its table change by one more choice: only through the fans that touch its module.
-use Rattle.std.proofs.Common.{◌≡◌, ◌≢◌, ℕ, zero, suc, ◌+◌, ◌-◌, ◌^◌, ◌<◌, ◌≤◌, Bool, true, false, cond, eqb, nat_lt, List, [], ◌∷◌, ◌++◌, length, take, drop, map, set, get_or, Option, Some, None, sym, ◌∙◌, ap, subst, refl, inl, inr, arith, length-drop, length-take-le}
+-- How a bound changes by one more choice: only through the fans that touch its module.
+use Rattle.std.proofs.Common.{◌≡◌, ◌≢◌, ℕ, zero, suc, ◌+◌, ◌-◌, ◌<◌, ◌≤◌, Bool, true, false, cond, eqb, nat_lt, List, [], ◌∷◌, ◌++◌, length, take, map, get_or, Option, Some, None, sym, ◌∙◌, ap, subst, refl, inl, inr, arith, length-take-le}
 use Rattle.std.specs.List.{sum_by, All, list_any, filter, slice_get}
 use Rattle.std.specs.Option.{option_map, unwrap_or}
 use Rattle.std.proofs.lemmas.Bool.{cases_lt, cases_eq}
 use Rattle.std.proofs.lemmas.Bool.Decides.{nat_tests}
-use Rattle.std.proofs.lemmas.List.{length_push, get_or-drop, drop-set-add, take_more, take_all, map_push, append-nil}
+use Rattle.std.proofs.lemmas.List.{length_push, take_more, take_all, map_push, append-nil}
 use Rattle.std.proofs.lemmas.Option.{slice_get_within, slice_get_read, get_or_from_slice_get}
-use Rattle.std.proofs.lemmas.List.Sums.{sum_by-cons, sum_by_more, sum_by_more_le, sum_by-take-le, get_or-le-sum_by}
+use Rattle.std.proofs.lemmas.List.Sums.{sum_by-cons}
 use Rattle.std.proofs.lemmas.List.Elements.{All-head, All-tail, All-filter, All-get_or, filter_more}
 use Rattle.choice_core.specs.declared.sharings.Choice.{Choice}
-use Rattle.choice_core.specs.declared.sharings.Choice.TheVariants.{A, Y, C, S}
+use Rattle.choice_core.specs.declared.sharings.Choice.TheVariants.{A}
 use Rattle.choice_core.specs.declared.sharings.Sharing.{Sharing}
 use Rattle.choice_core.specs.declared.sharings.Sharing.TheVariants.{Arithmetic, Boolean, Yao}
 use Rattle.choice_core.specs.declared.problems.Fan.{Fan}
 use Rattle.choice_core.specs.declared.problems.Problem.{Problem}
 use Rattle.choice_core.specs.Choices.{sharing_of}
-use Rattle.choice_core.specs.Problems.{Row, own_of, own_sum, sharing_at, reaches, charge, fan_cost_from, fan_cost, cost_of, Fits, Ascends, IsFan, IsProblem, greatest_own, touches, AreTouching}
-use Rattle.choice_core.specs.Bound.{least, next_from, is_at, further_from, further, due, least_at, least_past, least_price, bound_of}
-use Rattle.choice_core.specs.Growing.{entry_of, IsDueTable, least_by, least_sum, before_last, unplaced, lost, added}
-use Rattle.choice_core.proofs.Sums.{sum_add, least_le, least_from, Fits-within}
-use Rattle.choice_core.proofs.Limits.{due_le, own_sum_more}
-use Rattle.choice_core.proofs.Loops.{least_past_more}
+use Rattle.choice_core.specs.Problems.{Row, own_of, own_sum, sharing_at, reaches, charge, fan_cost_from, fan_cost, cost_of, Ascends, IsFan, IsProblem, touches, AreTouching, next_from, is_at}
+use Rattle.choice_core.specs.Bound.{least, further_from, further, due, least_at, least_price}
+use Rattle.choice_core.specs.Growing.{entry_of, least_by, before_last, lost}
+use Rattle.choice_core.proofs.Sums.{sum_add, least_le, least_from}
 use Rattle.choice_core.proofs.Steps.{sharing_before, sharing_here, sharing_none, paid_at, reaches_more, next_more, none_past, charges_more, charges_stay, placed_some, or_nothing}
+
+-- the least prices of the fans whose producer is past the first k modules
+abbrev pub unplaced : Problem → ℕ → ℕ
+unplaced p k = sum_by (λ f. cond (nat_lt f.from k) 0 (least_price p.own f)) p.fans
+
+-- what a fan adds at a module: something at its next consumer alone
+abbrev pub added : Fan → List Choice → ℕ → Sharing → ℕ
+added f cs m t = cond (is_at (next_from (length cs) f.to) m) (further f cs t) 0
 
 pub sum_same : {X : Type 0} (P : X → Type 0) (f g : X → ℕ) (xs : List X) → All P xs → ((x : X) → P x → f x ≡ g x) → sum_by f xs ≡ sum_by g xs
 sum_same P f g [] all same = refl
@@ -141,7 +147,7 @@ added_more n f prefix c m t fan past = elim (cases_eq f.from (length prefix)) [
               rw (next, none, none') (plus_zero _))
         ]
 
--- the table's entries with one more choice
+-- what a sharing adds at a module with one more choice
 pub due_grows : (p : Problem) → IsProblem p → (prefix : List Choice) (c : Choice) (m : ℕ) (t : Sharing) → length prefix < m → due p.fans (prefix ++ c ∷ []) m t ≡ due p.fans prefix m t + sum_by (λ f. added f (prefix ++ c ∷ []) m t) (filter (λ f. touches f (length prefix)) p.fans)
 unfolding due
 due_grows p problem prefix c m t past =
@@ -200,7 +206,7 @@ unplaced_falls p k =
     same_sums f g [] same = refl
     same_sums f g (x ∷ xs) same = rw (sum_by-cons f x xs, sum_by-cons g x xs) (let rest = same_sums f g xs same in let first = same x in omega (arith, rest, first))
 
--- least sums over a table
+-- what a module adds, by an entry
 pub least_by_is : (fans : List Fan) (prefix : List Choice) (m : ℕ) (row : Row) (entry : List ℕ) → ((t : Sharing) → entry_of entry t ≡ due fans prefix m t) → least_by row entry ≡ least_at fans prefix m row
 least_by_is fans prefix m row entry is = rw (is Arithmetic, is Boolean, is Yao) refl
 
@@ -223,50 +229,6 @@ least_by_le row one two le = by_least (least (λ c. option_map (λ own. own + en
         let same : lower.0 ≡ m = (let both : Some lower.0 ≡ Some m = sym lower.1 ∙ is in cc) in
         let entries = le (sharing_of best.0) in
         rw (is, found.1) (omega (arith, same, lower.2, back.2, entries))
-
-pub least_sum-set : (rows : List Row) (table : List (List ℕ)) (i : ℕ) (entry : List ℕ) → i < length rows → i < length table → least_sum rows (set table i entry) + least_by (get_or rows i []) (get_or table i []) ≡ least_sum rows table + least_by (get_or rows i []) entry
-unfolding least_sum
-least_sum-set [] table i entry in_rows in_table = absurd (omega arith)
-least_sum-set (row ∷ rows) [] i entry in_rows in_table = absurd (omega arith)
-least_sum-set (row ∷ rows) (e ∷ table) zero entry in_rows in_table = omega arith
-least_sum-set (row ∷ rows) (e ∷ table) (suc i) entry in_rows in_table = let rest = least_sum-set rows table i entry (omega arith) (omega arith) in omega (arith, rest)
-
-pub least_sum_has : (rows : List Row) (table : List (List ℕ)) (i : ℕ) → i < length rows → i < length table → least_by (get_or rows i []) (get_or table i []) ≤ least_sum rows table
-unfolding least_sum
-least_sum_has [] table i in_rows in_table = absurd (omega arith)
-least_sum_has (row ∷ rows) [] i in_rows in_table = absurd (omega arith)
-least_sum_has (row ∷ rows) (e ∷ table) zero in_rows in_table = omega arith
-least_sum_has (row ∷ rows) (e ∷ table) (suc i) in_rows in_table = let rest = least_sum_has rows table i (omega arith) (omega arith) in omega (arith, rest)
-
-pub least_sum_is : (fans : List Fan) (prefix : List Choice) (m : ℕ) (rows : List Row) (table : List (List ℕ)) → length table ≡ length rows → ((i : ℕ) (t : Sharing) → i < length table → entry_of (get_or table i []) t ≡ due fans prefix (m + i) t) → least_sum rows table ≡ least_past fans prefix m rows
-unfolding least_sum least_past
-least_sum_is fans prefix m [] table size is = refl
-least_sum_is fans prefix m (row ∷ rows) [] size is = absurd (omega arith)
-least_sum_is fans prefix m (row ∷ rows) (entry ∷ table) size is =
-    let first = least_by_is fans prefix m row entry (λ t. is 0 t (omega arith) ∙ ap (λ (k : ℕ). due fans prefix k t) (omega arith)) in
-    let rest = least_sum_is fans prefix (m + 1) rows table (omega arith) (λ i t below. is (suc i) t (omega arith) ∙ ap (λ (k : ℕ). due fans prefix k t) (omega arith)) in
-    omega (arith, first, rest)
-
-pub least_sum_le : (fans : List Fan) (prefix : List Choice) (m : ℕ) (rows : List Row) (table : List (List ℕ)) → length table ≡ length rows → ((i : ℕ) (t : Sharing) → i < length table → entry_of (get_or table i []) t ≤ due fans prefix (m + i) t) → least_sum rows table ≤ least_past fans prefix m rows
-unfolding least_sum least_past
-least_sum_le fans prefix m [] table size le = omega arith
-least_sum_le fans prefix m (row ∷ rows) [] size le = absurd (omega arith)
-least_sum_le fans prefix m (row ∷ rows) (entry ∷ table) size le =
-    let dues : List ℕ = due fans prefix m Arithmetic ∷ due fans prefix m Boolean ∷ due fans prefix m Yao ∷ [] in
-    let first = least_by_le row entry dues (below fans prefix m entry (λ t. (let h = le 0 t (omega arith) in subst (λ (k : ℕ). entry_of entry t ≤ due fans prefix k t) (omega arith) h))) in
-    let same = least_by_is fans prefix m row dues (entries fans prefix m) in
-    let rest = least_sum_le fans prefix (m + 1) rows table (omega arith) (λ i t inside. (let h = le (suc i) t (omega arith) in subst (λ (k : ℕ). entry_of (get_or table i []) t ≤ due fans prefix k t) (omega arith) h)) in
-    omega (arith, first, same, rest)
-  where
-    entries : (fans : List Fan) (prefix : List Choice) (m : ℕ) (t : Sharing) → entry_of (due fans prefix m Arithmetic ∷ due fans prefix m Boolean ∷ due fans prefix m Yao ∷ []) t ≡ due fans prefix m t
-    entries fans prefix m Arithmetic = refl
-    entries fans prefix m Boolean = refl
-    entries fans prefix m Yao = refl
-
-    below : (fans : List Fan) (prefix : List Choice) (m : ℕ) (entry : List ℕ) → ((t : Sharing) → entry_of entry t ≤ due fans prefix m t) → (t : Sharing) → entry_of entry t ≤ entry_of (due fans prefix m Arithmetic ∷ due fans prefix m Boolean ∷ due fans prefix m Yao ∷ []) t
-    below fans prefix m entry le Arithmetic = le Arithmetic
-    below fans prefix m entry le Boolean = le Boolean
-    below fans prefix m entry le Yao = le Yao
 
 pub next_within : (k : ℕ) (ms : List ℕ) (low n j : ℕ) → Ascends low ms n → next_from k ms ≡ Some j → (k ≤ j) × (j < n)
 unfolding Ascends next_from
@@ -310,41 +272,6 @@ touched_item fans k numbers touching i within item is =
     let place = touched_place fans (filter (λ f. touches f k) fans) numbers touching i item within in
     (place.0, is ∙ get_or_from_slice_get fans (get_or numbers i 0) (get_or (filter (λ f. touches f k) fans) i item) item place.1)
 
-pub added_at : (f : Fan) (cs : List Choice) (j : ℕ) (t : Sharing) → next_from (length cs) f.to ≡ Some j → added f cs j t ≡ further f cs t
-added_at f cs j t is = let same : eqb j j ≡ true = grind (arith, nat_tests) in rw (is, same) refl
-
-pub has_next : (rows : List Row) (table : List (List ℕ)) (k j : ℕ) → k ≤ j → j < length rows → length table ≡ length rows → least_by (get_or rows j []) (get_or table j []) ≤ least_sum (drop k rows) (drop k table)
-has_next rows table k j past within size =
-    let has = least_sum_has (drop k rows) (drop k table) (j - k) (rw length-drop (omega arith)) (rw length-drop (omega arith)) in
-    let row : get_or (drop k rows) (j - k) [] ≡ get_or rows j [] = get_or-drop k rows (j - k) [] ∙ ap (λ (i : ℕ). get_or rows i []) (omega arith) in
-    let entry : get_or (drop k table) (j - k) [] ≡ get_or table j [] = get_or-drop k table (j - k) [] ∙ ap (λ (i : ℕ). get_or table i []) (omega arith) in
-    rw (row, entry) at has
-
-pub sum_next : (rows : List Row) (table : List (List ℕ)) (k j : ℕ) (e : List ℕ) → k ≤ j → j < length rows → length table ≡ length rows → least_sum (drop k rows) (drop k (set table j e)) + least_by (get_or rows j []) (get_or table j []) ≡ least_sum (drop k rows) (drop k table) + least_by (get_or rows j []) e
-sum_next rows table k j e past within size =
-    let changed = least_sum-set (drop k rows) (drop k table) (j - k) e (rw length-drop (omega arith)) (rw length-drop (omega arith)) in
-    let row : get_or (drop k rows) (j - k) [] ≡ get_or rows j [] = get_or-drop k rows (j - k) [] ∙ ap (λ (i : ℕ). get_or rows i []) (omega arith) in
-    let entry : get_or (drop k table) (j - k) [] ≡ get_or table j [] = get_or-drop k table (j - k) [] ∙ ap (λ (i : ℕ). get_or table i []) (omega arith) in
-    let moved : drop k (set table j e) ≡ set (drop k table) (j - k) e = ap (λ (i : ℕ). drop k (set table i e)) (omega arith) ∙ drop-set-add k table (j - k) e in
-    rw moved (rw (row, entry) at changed)
-
-own_below : (row : Row) (c : Choice) (n : ℕ) → own_of row c ≡ Some n → n ≤ greatest_own row
-own_below row A n is = rw is (omega arith)
-own_below row Y n is = rw is (omega arith)
-own_below row C n is = rw is (omega arith)
-own_below row S n is = rw is (omega arith)
-
-pub least_by_small : (row : Row) (entry : List ℕ) (limit : ℕ) → ((t : Sharing) → greatest_own row + entry_of entry t < limit) → least_by row entry < limit
-least_by_small row entry limit small = by_least (least (λ c. option_map (λ own. own + entry_of entry (sharing_of c)) (own_of row c))) refl
-  where
-    found : (c : Choice) (o : Option ℕ) (n : ℕ) → own_of row c ≡ o → option_map (λ own. own + entry_of entry (sharing_of c)) o ≡ Some n → n < limit
-    found c None n own is = absurd (cc)
-    found c (Some m) n own is = let same : m + entry_of entry (sharing_of c) ≡ n = cc in omega (arith, same, small (sharing_of c), own_below row c m own)
-
-    by_least : (o : Option ℕ) → least (λ c. option_map (λ own. own + entry_of entry (sharing_of c)) (own_of row c)) ≡ o → unwrap_or (least (λ c. option_map (λ own. own + entry_of entry (sharing_of c)) (own_of row c))) 0 < limit
-    by_least None is = rw is (omega (arith, small Yao))
-    by_least (Some n) is = let best = least_from (λ c. option_map (λ own. own + entry_of entry (sharing_of c)) (own_of row c)) n is in rw is (found best.0 (own_of row best.0) n refl best.1)
-
 pub lost_at : (rows : List Row) (k : ℕ) (f : Fan) → (f.from ≡ k → lost rows k f ≡ least_price rows f) × (f.from ≢ k → lost rows k f ≡ 0)
 lost_at rows k f = (
   λ same. (let is : eqb f.from k ≡ true = grind (arith, nat_tests) in rw is refl),
@@ -369,113 +296,6 @@ due_grown p problem cs some m t past =
     let at : due p.fans (before_last cs ++ get_or cs (length cs - 1) A ∷ []) m t ≡ due p.fans (before_last cs) m t + sum_by (λ f. added f (before_last cs ++ get_or cs (length cs - 1) A ∷ []) m t) (filter (λ f. touches f (length cs - 1)) p.fans) =
     grows ∙ ap (λ (k : ℕ). due p.fans (before_last cs) m t + sum_by (λ f. added f (before_last cs ++ get_or cs (length cs - 1) A ∷ []) m t) (filter (λ f. touches f k) p.fans)) split.1 in
     subst (λ (ds : List Choice). due p.fans ds m t ≡ due p.fans (before_last cs) m t + sum_by (λ f. added f ds m t) (filter (λ f. touches f (length cs - 1)) p.fans)) (sym split.0) at
-
--- while the touching fans are added, one after another
-pub record IsRaised (p : Problem) (cs : List Choice) (fans : List Fan) (table : List (List ℕ)) : Type 0 where
-  pub size : length table ≡ length p.own
-  pub entries : (m : ℕ) (t : Sharing) → length cs ≤ m → m < length table → entry_of (get_or table m []) t ≡ due p.fans (before_last cs) m t + sum_by (λ f. added f cs m t) fans
-
-pub raised_none : (p : Problem) (cs : List Choice) (table : List (List ℕ)) → 0 < length cs → IsDueTable p (before_last cs) table → IsRaised p cs [] table
-raised_none p cs table some dues = record {
-  size = dues.size;
-  entries = λ m t past within. (let split = last_split cs some A in dues.dues m t (omega (arith, split.1, past)) within ∙ omega arith);
-}
-
-pub raised_all : (p : Problem) → IsProblem p → (cs : List Choice) → 0 < length cs → (table : List (List ℕ)) → IsRaised p cs (filter (λ f. touches f (length cs - 1)) p.fans) table → IsDueTable p cs table
-raised_all p problem cs some table raised = record { size = raised.size; dues = λ m t past within. raised.entries m t past within ∙ sym (due_grown p problem cs some m t past) }
-
--- what is raised so far is at most what is due
-pub raised_le : (p : Problem) → IsProblem p → (cs : List Choice) → 0 < length cs → (n : ℕ) (table : List (List ℕ)) → IsRaised p cs (take n (filter (λ f. touches f (length cs - 1)) p.fans)) table → least_sum (drop (length cs) p.own) (drop (length cs) table) ≤ least_past p.fans cs (length cs) (drop (length cs) p.own)
-raised_le p problem cs some n table raised =
-    least_sum_le p.fans cs (length cs) (drop (length cs) p.own) (drop (length cs) table) (simp length-drop (omega (arith, raised.size))) (λ i t within. (
-    let inside : length cs + i < length table = (let w = rw length-drop at within in omega (arith, w)) in
-    let part = sum_by-take-le (λ f. added f cs (length cs + i) t) (filter (λ f. touches f (length cs - 1)) p.fans) n in
-    let whole = due_grown p problem cs some (length cs + i) t (omega arith) in
-    let entry = raised.entries (length cs + i) t (omega arith) inside in
-    rw (get_or-drop (length cs) table i []) (omega (arith, part, whole, entry))))
-
-pub raised_total : (p : Problem) → IsProblem p → (cs : List Choice) → 0 < length cs → (table : List (List ℕ)) → IsDueTable p cs table → least_sum (drop (length cs) p.own) (drop (length cs) table) ≡ least_past p.fans cs (length cs) (drop (length cs) p.own)
-raised_total p problem cs some table dues =
-    least_sum_is p.fans cs (length cs) (drop (length cs) p.own) (drop (length cs) table) (simp length-drop (omega (arith, dues.size))) (λ i t within. (
-    let inside : length cs + i < length table = (let w = rw length-drop at within in omega (arith, w)) in
-    get_or_is t (get_or-drop (length cs) table i []) (dues.dues (length cs + i) t (omega arith) inside)))
-  where
-    get_or_is : {one two : List ℕ} (t : Sharing) {n : ℕ} → one ≡ two → entry_of two t ≡ n → entry_of one t ≡ n
-    get_or_is t same is = ap (λ (e : List ℕ). entry_of e t) same ∙ is
-
--- room for one more fan
-pub raised_room : (p : Problem) → IsProblem p → (cs : List Choice) → 0 < length cs → (n : ℕ) (table : List (List ℕ)) (item : Fan) → n < length (filter (λ f. touches f (length cs - 1)) p.fans) → item ≡ get_or (filter (λ f. touches f (length cs - 1)) p.fans) n item → IsRaised p cs (take n (filter (λ f. touches f (length cs - 1)) p.fans)) table → (m : ℕ) (t : Sharing) → length cs ≤ m → m < length table → greatest_own (get_or p.own m []) + (entry_of (get_or table m []) t + added item cs m t) < 2 ^ 63
-raised_room p problem cs some n table item within is raised m t past inside =
-    let part = sum_by_more_le (λ f. added f cs m t) (filter (λ f. touches f (length cs - 1)) p.fans) n item within in
-    let same = ap (λ (f : Fan). added f cs m t) is in
-    let whole = due_grown p problem cs some m t past in
-    let entry = raised.entries m t past inside in
-    let limit = due_le p.fans cs m t in
-    let own = get_or-le-sum_by greatest_own p.own m [] (omega (arith, inside, raised.size)) in
-    omega (arith, part, same, whole, entry, limit, own, problem.small)
-
-pub raised_more : (p : Problem) (cs : List Choice) (fans : List Fan) (n : ℕ) (old new : List (List ℕ)) (item : Fan) → n < length fans → item ≡ get_or fans n item → length new ≡ length old → IsRaised p cs (take n fans) old → ((m : ℕ) (t : Sharing) → m < length old → entry_of (get_or new m []) t ≡ entry_of (get_or old m []) t + added item cs m t) → IsRaised p cs (take (n + 1) fans) new
-raised_more p cs fans n old new item within is size raised entries = record {
-  size = size ∙ raised.size;
-  entries = λ m t past inside. (
-      let before : m < length old = omega (arith, size, inside) in
-      let more = sum_by_more (λ f. added f cs m t) fans n item within in
-      let same = ap (λ (f : Fan). added f cs m t) is in
-      let entry = entries m t before in
-      let earlier = raised.entries m t past before in
-      omega (arith, more, same, entry, earlier));
-}
-
--- what the bound before and the cost after one more choice are made of
-pub grow_facts : (p : Problem) → IsProblem p → (cs : List Choice) → 0 < length cs → Fits p.own cs → (table : List (List ℕ)) → IsDueTable p (before_last cs) table → (bound_of p (before_last cs) ≡ cost_of p (before_last cs) + least_by (get_or p.own (length cs - 1) []) (get_or table (length cs - 1) []) + least_sum (drop (length cs) p.own) (drop (length cs) table) + unplaced p (length cs) + sum_by (lost p.own (length cs - 1)) (filter (λ f. touches f (length cs - 1)) p.fans)) × (cost_of p cs ≡ cost_of p (before_last cs) + unwrap_or (own_of (get_or p.own (length cs - 1) []) (get_or cs (length cs - 1) A)) 0 + entry_of (get_or table (length cs - 1) []) (sharing_of (get_or cs (length cs - 1) A)))
-grow_facts p problem cs some fits table dues =
-    let k = length cs - 1 in
-    let prefix = before_last cs in
-    let c = get_or cs (length cs - 1) A in
-    let split = last_split cs some A in
-    let whole = Fits-within p.own cs fits in
-    let next : length prefix + 1 ≡ length cs = omega (arith, split.1, some) in
-    let more = least_past_more p.fans prefix p.own (length prefix) (omega (arith, split.1, whole, some)) in
-    let here = ap (λ (i : ℕ). least_at p.fans prefix i (get_or p.own i [])) split.1 in
-    let rest = ap (λ (i : ℕ). least_past p.fans prefix i (drop i p.own)) next in
-    let entry = λ (t : Sharing). dues.dues (length cs - 1) t (omega (arith, split.1)) (omega (arith, dues.size, whole, some)) in
-    let first = least_by_is p.fans prefix (length cs - 1) (get_or p.own (length cs - 1) []) (get_or table (length cs - 1) []) entry in
-    let sum = least_sum_is p.fans prefix (length cs) (drop (length cs) p.own) (drop (length cs) table) (simp length-drop (omega (arith, dues.size))) (λ i t within. (
-    let inside : length cs + i < length table = (let w = rw length-drop at within in omega (arith, w)) in
-    ap (λ (e : List ℕ). entry_of e t) (get_or-drop (length cs) table i []) ∙ dues.dues (length cs + i) t (omega (arith, split.1)) inside)) in
-    let falls = unplaced_falls p (length cs - 1) in
-    let one = ap (unplaced p) split.1 in
-    let two : unplaced p (length cs - 1 + 1) ≡ unplaced p (length cs) = ap (unplaced p) (omega arith) in
-    let grows = cost_grows p problem prefix c in
-    let cost = ap (cost_of p) split.0 in
-    let own_same = ap (own_sum p.own) split.0 in
-    let own_all = ap (own_sum p.own) (take_all (length cs - 1 + 1) cs (omega arith)) in
-    let own = own_sum_more p.own cs (length cs - 1) A (omega arith) in
-    let due_here = ap (λ (i : ℕ). due p.fans prefix i (sharing_of c)) split.1 in
-    let entry_here = entry (sharing_of c) in
-    (omega (arith, more, here, rest, first, sum, falls, one, two), omega (arith, grows, cost, own_same, own_all, own, due_here, entry_here))
-
-pub entry_small : (p : Problem) → IsProblem p → (cs : List Choice) → 0 < length cs → Fits p.own cs → (table : List (List ℕ)) → IsDueTable p (before_last cs) table → (t : Sharing) → greatest_own (get_or p.own (length cs - 1) []) + entry_of (get_or table (length cs - 1) []) t < 2 ^ 64
-entry_small p problem cs some fits table dues t =
-    let split = last_split cs some A in
-    let whole = Fits-within p.own cs fits in
-    let entry = dues.dues (length cs - 1) t (omega (arith, split.1)) (omega (arith, dues.size, whole, some)) in
-    let limit = due_le p.fans (before_last cs) (length cs - 1) t in
-    let own = get_or-le-sum_by greatest_own p.own (length cs - 1) [] (omega (arith, whole, some)) in
-    omega (arith, entry, limit, own, problem.small)
-
--- before any choice nothing is due
-pub none_due : (p : Problem) (table : List (List ℕ)) → length table ≡ length p.own → ((m : ℕ) (t : Sharing) → m < length table → entry_of (get_or table m []) t ≡ 0) → IsDueTable p [] table
-unfolding due further_from
-none_due p table size zeros = record { size = size; dues = λ m t past within. zeros m t within ∙ sym (no_dues p.fans m t) }
-  where
-    no_dues : (fans : List Fan) (m : ℕ) (t : Sharing) → sum_by (λ f. cond (is_at (next_from 0 f.to) m) (further_from f [] t (sharing_at [] f.from)) 0) fans ≡ 0
-    no_dues [] m t = refl
-    no_dues (f ∷ fans) m t =
-        let none = sharing_none [] f.from (omega arith) in
-        let rest = no_dues fans m t in
-        let nothing = either_none (is_at (next_from 0 f.to) m) in
-        rw (sum_by-cons (λ g. cond (is_at (next_from 0 g.to) m) (further_from g [] t (sharing_at [] g.from)) 0) f fans, none) (omega (arith, rest, nothing))
 
 -- one more fan is looked at for the places of those that touch a module
 pub touching_more : (fans : List Fan) (k i : ℕ) (item : Fan) (places : List ℕ) → i < length fans → item ≡ get_or fans i item → map (λ j. slice_get fans j) places ≡ map (λ f. Some f) (filter (λ f. touches f k) (take i fans)) → (touches item k ≡ true → map (λ j. slice_get fans j) (places ++ i ∷ []) ≡ map (λ f. Some f) (filter (λ f. touches f k) (take (i + 1) fans))) × (touches item k ≡ false → map (λ j. slice_get fans j) places ≡ map (λ f. Some f) (filter (λ f. touches f k) (take (i + 1) fans)))

@@ -1,12 +1,13 @@
--- What the tests' ladders keep.
-use Rattle.std.proofs.Common.{◌≢◌, ℕ, ◌+◌, ◌<◌, ◌≤◌, List, [], ◌∷◌, ◌≡◌, length, take, drop, IsSome, sym, ◌∙◌, ap, subst, arith, length-take-le, take-append-drop, take-take}
+-- What the tests' ladders and stars keep.
+use Rattle.std.proofs.Common.{◌≢◌, ℕ, ◌+◌, ◌<◌, ◌≤◌, List, [], ◌∷◌, ◌≡◌, ◌*◌, length, take, drop, replicate, refl, rules, IsSome, None, Some, sym, ◌∙◌, ap, subst, arith, length-take-le, take-append-drop, take-take}
 use Rattle.choice_core.specs.Growing.{before_last}
 use Rattle.choice_core.proofs.Sums.{Fits-left}
-use Rattle.std.specs.List.{All}
-use Rattle.std.proofs.lemmas.List.Elements.{All-head, All-tail}
+use Rattle.std.specs.List.{All, sum_by}
+use Rattle.std.proofs.lemmas.List.Elements.{All-head, All-tail, All-replicate}
+use Rattle.std.proofs.lemmas.List.Folds.{sum_by-replicate}
 use Rattle.choice_core.specs.declared.sharings.Choice.{Choice}
-use Rattle.choice_core.specs.declared.sharings.Choice.TheVariants.{A}
-use Rattle.choice_core.specs.Problems.{Row, own_of, Fits}
+use Rattle.choice_core.specs.declared.sharings.Choice.TheVariants.{A, Y, C, S}
+use Rattle.choice_core.specs.Problems.{Row, own_of, Fits, greatest_own}
 
 abbrev pub AllowsOthers : Row → Type 0
 AllowsOthers row = (c : Choice) → c ≢ A → IsSome (own_of row c)
@@ -26,3 +27,19 @@ one_longer rows cs i within fits =
       ap (λ (k : ℕ). take k (take (i + 1) cs)) (omega (arith, size)) ∙ take-take i (i + 1) cs (omega arith),
       Fits-left rows (take (i + 1) cs) (drop (i + 1) cs) (subst (λ (ds : List Choice). Fits rows ds) (sym (take-append-drop (i + 1) cs)) fits),
     )
+
+-- the rows of a star
+abbrev pub star_row : Row
+star_row = None ∷ Some 0 ∷ Some 5000 ∷ Some 5000 ∷ []
+
+star_allows : AllowsOthers star_row
+star_allows A other = absurd (other refl)
+star_allows Y other = search rules
+star_allows C other = search rules
+star_allows S other = search rules
+
+pub star_rows : (n : ℕ) → All AllowsOthers (replicate n star_row)
+star_rows n = All-replicate AllowsOthers n star_row star_allows
+
+pub star_greatest : (n : ℕ) → sum_by greatest_own (replicate n star_row) ≡ 5000 * n
+star_greatest n = let all = sum_by-replicate greatest_own n star_row in omega (arith, all)

@@ -5,7 +5,8 @@ pub mod Limits
 mod Walks
 mod Loops
 mod Ladders
-pub mod Growth
+mod Growth
 pub mod Parts
-pub mod Rises
+mod Rises
 mod Touched
+mod Followed

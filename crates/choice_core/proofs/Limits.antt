@@ -12,8 +12,8 @@ use Rattle.choice_core.specs.declared.sharings.Sharing.TheVariants.{Arithmetic, 
 use Rattle.choice_core.specs.declared.problems.Fan.{Fan}
 use Rattle.choice_core.specs.declared.problems.Problem.{Problem}
 use Rattle.choice_core.specs.Choices.{same_sharing}
-use Rattle.choice_core.specs.Problems.{Row, own_of, price_of, own_sum, sharing_at, reaches, charge, fan_cost_from, fan_cost, cost_of, Fits, HasChoice, IsProblem, greatest_own, greatest_price}
-use Rattle.choice_core.specs.Bound.{next_from, is_at, further_from, further, due, bound_of}
+use Rattle.choice_core.specs.Problems.{Row, own_of, price_of, own_sum, sharing_at, reaches, charge, fan_cost_from, fan_cost, cost_of, Fits, HasChoice, IsProblem, greatest_own, greatest_price, next_from, is_at}
+use Rattle.choice_core.specs.Bound.{further_from, further, due, bound_of}
 use Rattle.choice_core.proofs.Sums.{own_sum-append, Fits-append, Fits-within}
 use Rattle.choice_core.proofs.Laws.{bound_below}
 

@@ -1,14 +1,13 @@
 -- One more turn of each loop that sums.
-use Rattle.std.proofs.Common.{◌≡◌, ℕ, ◌+◌, ◌<◌, ◌≤◌, cond, eqb, List, [], ◌∷◌, length, take, drop, get_or, Option, Some, None, ap, refl, arith}
+use Rattle.std.proofs.Common.{◌≡◌, ℕ, ◌+◌, ◌<◌, ◌≤◌, eqb, List, [], ◌∷◌, length, take, drop, get_or, Option, Some, None, ap, refl, arith}
 use Rattle.std.specs.List.{sum_by}
 use Rattle.std.specs.Option.{option_eq}
 use Rattle.std.proofs.lemmas.List.{at_drop_more, at_drop_all}
 use Rattle.std.proofs.lemmas.List.Sums.{sum_by_more, sum_by_more_le}
 use Rattle.choice_core.specs.declared.sharings.Choice.{Choice}
-use Rattle.choice_core.specs.declared.sharings.Sharing.{Sharing}
 use Rattle.choice_core.specs.declared.problems.Fan.{Fan}
-use Rattle.choice_core.specs.Problems.{Row, own_sum}
-use Rattle.choice_core.specs.Bound.{next_from, is_at, further, due, least_at, least_past}
+use Rattle.choice_core.specs.Problems.{Row, own_sum, is_at}
+use Rattle.choice_core.specs.Bound.{least_at, least_past}
 
 -- what `next_from(..) == Some(number)` means
 pub at_is : (o : Option ℕ) (k : ℕ) → option_eq eqb o (Some k) ≡ is_at o k
@@ -22,10 +21,6 @@ sum_read F fans i item within is =
     let more = sum_by_more F fans i item within in
     let le = sum_by_more_le F fans i item within in
     (omega (arith, more, same), omega (arith, le, same))
-
-pub due_more : (fans : List Fan) (prefix : List Choice) (m : ℕ) (t : Sharing) (i : ℕ) (item : Fan) → i < length fans → item ≡ get_or fans i item → (due (take (i + 1) fans) prefix m t ≡ due (take i fans) prefix m t + cond (is_at (next_from (length prefix) item.to) m) (further item prefix t) 0) × (due (take i fans) prefix m t + cond (is_at (next_from (length prefix) item.to) m) (further item prefix t) 0 ≤ due fans prefix m t)
-unfolding due
-due_more fans prefix m t i item within is = sum_read (λ f. cond (is_at (next_from (length prefix) f.to) m) (further f prefix t) 0) fans i item within is
 
 pub least_past_more : (fans : List Fan) (prefix : List Choice) (rows : List Row) (n : ℕ) → n < length rows → least_past fans prefix n (drop n rows) ≡ least_at fans prefix n (get_or rows n []) + least_past fans prefix (n + 1) (drop (n + 1) rows)
 unfolding least_past

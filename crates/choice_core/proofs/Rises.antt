@@ -1,11 +1,14 @@
--- How a bound rises by one more choice: at the next consumers of the fans that touch its module.
+-- How a bound rises by one more choice: at the modules that follow its module.
 use Rattle.std.proofs.Common.{◌≡◌, ◌≢◌, ℕ, zero, suc, ◌+◌, ◌-◌, ◌<◌, ◌≤◌, ◌||◌, Bool, true, false, cond, eqb, nat_lt, List, [], ◌∷◌, ◌++◌, length, take, drop, get_or, Option, Some, None, sym, ◌∙◌, ap, subst, refl, inl, inr, arith, length-drop, take-append-drop}
-use Rattle.std.specs.List.{sum_by, list_any, filter}
+use Rattle.std.specs.List.{All, IsDistinct, sum_by, list_any, filter}
 use Rattle.std.specs.Option.{unwrap_or}
 use Rattle.std.proofs.lemmas.Bool.{cases_eq}
 use Rattle.std.proofs.lemmas.Bool.Decides.{nat_tests}
-use Rattle.std.proofs.lemmas.List.{get_or-drop, take_all, take_more}
+use Rattle.std.proofs.lemmas.List.{get_or-drop, take_all, take_more, get_or_default}
 use Rattle.std.proofs.lemmas.List.Sums.{sum_by-cons}
+use Rattle.std.proofs.lemmas.List.Folds.{list_any-append, list_any_at}
+use Rattle.std.proofs.lemmas.List.Elements.{All-head, All-tail, All-filter}
+use Rattle.std.proofs.lemmas.Map.Keys.{apart_from_distinct, IsDistinct-tail}
 use Rattle.choice_core.specs.declared.sharings.Choice.{Choice}
 use Rattle.choice_core.specs.declared.sharings.Choice.TheVariants.{A}
 use Rattle.choice_core.specs.declared.sharings.Sharing.{Sharing}
@@ -13,14 +16,14 @@ use Rattle.choice_core.specs.declared.sharings.Sharing.TheVariants.{Arithmetic, 
 use Rattle.choice_core.specs.declared.problems.Fan.{Fan}
 use Rattle.choice_core.specs.declared.problems.Problem.{Problem}
 use Rattle.choice_core.specs.Choices.{sharing_of}
-use Rattle.choice_core.specs.Problems.{Row, own_of, own_sum, cost_of, Fits, IsProblem, touches}
-use Rattle.choice_core.specs.Bound.{next_from, is_at, further, due, least_at, least_past, bound_of}
-use Rattle.choice_core.specs.Growing.{entry_of, before_last, unplaced, lost, added, is_next_of, partly}
+use Rattle.choice_core.specs.Problems.{Row, own_of, own_sum, cost_of, Fits, IsProblem, touches, next_from, is_at, lead_to, IsFan, AreFollowing}
+use Rattle.choice_core.specs.Bound.{further, due, least_at, least_past, bound_of}
+use Rattle.choice_core.specs.Growing.{entry_of, before_last, lost}
 use Rattle.choice_core.proofs.Sums.{Fits-within}
 use Rattle.choice_core.proofs.Limits.{own_sum_more}
 use Rattle.choice_core.proofs.Laws.{bound_rises}
 use Rattle.choice_core.proofs.Loops.{least_past_more}
-use Rattle.choice_core.proofs.Growth.{sum_filter, least_by_is, least_by_le, last_split, due_grown, unplaced_falls, cost_grows}
+use Rattle.choice_core.proofs.Growth.{unplaced, added, next_within, sum_filter, least_by_is, least_by_le, last_split, due_grown, unplaced_falls, cost_grows}
 use Rattle.choice_core.proofs.Walks.{or_true}
 
 -- ---- what a module adds, by the fans that touch it
@@ -80,14 +83,14 @@ none_both : (a b : Bool) → (a || b) ≡ false → (a ≡ false) × (b ≡ fals
 none_both true b none = absurd (cc)
 none_both false b none = (refl, none)
 
-none_added : (fans : List Fan) (cs : List Choice) (m : ℕ) (t : Sharing) → is_next_of fans (length cs) m ≡ false → sum_by (λ f. added f cs m t) fans ≡ 0
+none_added : (fans : List Fan) (cs : List Choice) (m : ℕ) (t : Sharing) → lead_to fans (length cs) m ≡ false → sum_by (λ f. added f cs m t) fans ≡ 0
 none_added [] cs m t none = refl
 none_added (f ∷ fans) cs m t none =
-    let both = none_both (is_at (next_from (length cs) f.to) m) (is_next_of fans (length cs) m) none in
+    let both = none_both (is_at (next_from (length cs) f.to) m) (lead_to fans (length cs) m) none in
     let at = both.0 in
     rw (sum_by-cons (λ f. added f cs m t) f fans, at) (let rest = none_added fans cs m t both.1 in omega (arith, rest))
 
-least_at_stays : (p : Problem) → IsProblem p → (cs : List Choice) → 0 < length cs → (m : ℕ) (row : Row) → length cs ≤ m → is_next_of (filter (λ f. touches f (length cs - 1)) p.fans) (length cs) m ≡ false → least_at p.fans (before_last cs) m row ≡ least_at p.fans cs m row
+least_at_stays : (p : Problem) → IsProblem p → (cs : List Choice) → 0 < length cs → (m : ℕ) (row : Row) → length cs ≤ m → lead_to (filter (λ f. touches f (length cs - 1)) p.fans) (length cs) m ≡ false → least_at p.fans (before_last cs) m row ≡ least_at p.fans cs m row
 least_at_stays p problem cs some m row past none =
     let one = entries p.fans (before_last cs) m in
     let first = least_by_is p.fans (before_last cs) m row one (entries_are p.fans (before_last cs) m) in
@@ -100,6 +103,15 @@ least_at_stays p problem cs some m row past none =
 
 -- ---- module by module
 
+-- whether the module is in the list
+abbrev pub has : List ℕ → ℕ → Bool
+has numbers m = list_any (λ i. eqb m i) numbers
+
+-- the least that modules from m on add: with the last choice at those in the list, and elsewhere without it
+unfoldable pub partly : Problem → List Choice → List ℕ → ℕ → List Row → ℕ
+partly p cs numbers m [] = 0
+partly p cs numbers m (row ∷ rows) = cond (has numbers m) (least_at p.fans cs m row) (least_at p.fans (before_last cs) m row) + partly p cs numbers (m + 1) rows
+
 pub partly_none : (p : Problem) (cs : List Choice) (m : ℕ) (rows : List Row) → partly p cs [] m rows ≡ least_past p.fans (before_last cs) m rows
 unfolding partly least_past
 partly_none p cs m [] = refl
@@ -109,41 +121,34 @@ by_next : (b : Bool) (x y : ℕ) → (b ≡ false → y ≡ x) → cond b x y �
 by_next true x y same = refl
 by_next false x y same = same refl
 
-pub partly_all : (p : Problem) → IsProblem p → (cs : List Choice) → 0 < length cs → (m : ℕ) (rows : List Row) → length cs ≤ m → partly p cs (filter (λ f. touches f (length cs - 1)) p.fans) m rows ≡ least_past p.fans cs m rows
+-- the modules that follow the last one of the prefix
+pub following_are : (p : Problem) (cs : List Choice) (numbers : List ℕ) → 0 < length cs → AreFollowing p.fans (length cs - 1) numbers → (n : ℕ) → has numbers n ≡ lead_to (filter (λ f. touches f (length cs - 1)) p.fans) (length cs) n
+following_are p cs numbers some following n = following.are n ∙ ap (λ (k : ℕ). lead_to (filter (λ f. touches f (length cs - 1)) p.fans) k n) (omega arith)
+
+pub partly_all : (p : Problem) → IsProblem p → (cs : List Choice) → 0 < length cs → (numbers : List ℕ) → AreFollowing p.fans (length cs - 1) numbers → (m : ℕ) (rows : List Row) → length cs ≤ m → partly p cs numbers m rows ≡ least_past p.fans cs m rows
 unfolding partly least_past
-partly_all p problem cs some m [] past = refl
-partly_all p problem cs some m (row ∷ rows) past =
-    let first = by_next (is_next_of (filter (λ f. touches f (length cs - 1)) p.fans) (length cs) m) (least_at p.fans cs m row) (least_at p.fans (before_last cs) m row) (least_at_stays p problem cs some m row past) in
-    let rest = partly_all p problem cs some (m + 1) rows (omega arith) in
+partly_all p problem cs some numbers following m [] past = refl
+partly_all p problem cs some numbers following m (row ∷ rows) past =
+    let are = following_are p cs numbers some following m in
+    let first = by_next (has numbers m) (least_at p.fans cs m row) (least_at p.fans (before_last cs) m row) (λ none. least_at_stays p problem cs some m row past (sym are ∙ none)) in
+    let rest = partly_all p problem cs some numbers following (m + 1) rows (omega arith) in
     omega (arith, first, rest)
 
 cond_le : (b : Bool) (x y : ℕ) → y ≤ x → cond b x y ≤ x
 cond_le true x y le = omega arith
 cond_le false x y le = le
 
-pub partly_le : (p : Problem) → IsProblem p → (cs : List Choice) → 0 < length cs → (fans : List Fan) (m : ℕ) (rows : List Row) → length cs ≤ m → partly p cs fans m rows ≤ least_past p.fans cs m rows
+pub partly_le : (p : Problem) → IsProblem p → (cs : List Choice) → 0 < length cs → (numbers : List ℕ) (m : ℕ) (rows : List Row) → length cs ≤ m → partly p cs numbers m rows ≤ least_past p.fans cs m rows
 unfolding partly least_past
-partly_le p problem cs some fans m [] past = omega arith
-partly_le p problem cs some fans m (row ∷ rows) past =
-    let first = cond_le (is_next_of fans (length cs) m) (least_at p.fans cs m row) (least_at p.fans (before_last cs) m row) (least_at_rises p problem cs some m row past) in
-    let rest = partly_le p problem cs some fans (m + 1) rows (omega arith) in
+partly_le p problem cs some numbers m [] past = omega arith
+partly_le p problem cs some numbers m (row ∷ rows) past =
+    let first = cond_le (has numbers m) (least_at p.fans cs m row) (least_at p.fans (before_last cs) m row) (least_at_rises p problem cs some m row past) in
+    let rest = partly_le p problem cs some numbers (m + 1) rows (omega arith) in
     omega (arith, first, rest)
 
--- ---- one more fan
+-- ---- one more module
 
-any_push : (test : Fan → Bool) (fans : List Fan) (f : Fan) → list_any test (fans ++ f ∷ []) ≡ (list_any test fans || test f)
-any_push test [] f = one (test f)
-  where
-    one : (b : Bool) → (b || false) ≡ b
-    one true = refl
-    one false = refl
-any_push test (x ∷ fans) f = more (test x) (list_any test fans) (test f) (list_any test (fans ++ f ∷ [])) (any_push test fans f)
-  where
-    more : (a b d both : Bool) → both ≡ (b || d) → (a || both) ≡ ((a || b) || d)
-    more true b d both is = refl
-    more false b d both is = is
-
-partly_same : (p : Problem) (cs : List Choice) (one two : List Fan) (m : ℕ) (rows : List Row) → ((i : ℕ) → m ≤ i → is_next_of one (length cs) i ≡ is_next_of two (length cs) i) → partly p cs one m rows ≡ partly p cs two m rows
+partly_same : (p : Problem) (cs : List Choice) (one two : List ℕ) (m : ℕ) (rows : List Row) → ((i : ℕ) → m ≤ i → has one i ≡ has two i) → partly p cs one m rows ≡ partly p cs two m rows
 unfolding partly
 partly_same p cs one two m [] same = refl
 partly_same p cs one two m (row ∷ rows) same =
@@ -155,59 +160,102 @@ or_false : (a : Bool) → (a || false) ≡ a
 or_false true = refl
 or_false false = refl
 
--- a fan that has no next consumer, or one that an earlier fan has
-pub partly_idle : (p : Problem) (cs : List Choice) (fans : List Fan) (f : Fan) (m : ℕ) (rows : List Row) → next_from (length cs) f.to ≡ None → partly p cs (fans ++ f ∷ []) m rows ≡ partly p cs fans m rows
-partly_idle p cs fans f m rows none =
-    partly_same p cs (fans ++ f ∷ []) fans m rows (λ i past. any_push (λ f. is_at (next_from (length cs) f.to) i) fans f ∙ ap (λ (o : Option ℕ). is_next_of fans (length cs) i || is_at o i) none ∙ or_false (is_next_of fans (length cs) i))
+pub has_push : (numbers : List ℕ) (j i : ℕ) → has (numbers ++ j ∷ []) i ≡ (has numbers i || eqb i j)
+has_push numbers j i = list_any-append (λ n. eqb i n) numbers (j ∷ []) ∙ ap (λ (b : Bool). has numbers i || b) (or_false (eqb i j))
 
-again : (a : Bool) (j i : ℕ) (f_at : (k : ℕ) → Bool) → f_at j ≡ true → a ≡ f_at i → (a || eqb j i) ≡ a
-again true j i f_at has is = refl
-again false j i f_at has is = elim (cases_eq j i) [
-  | inl same ↦ absurd (let both : false ≡ true = is ∙ ap f_at (sym same) ∙ has in cc)
-  | inr apart ↦ grind (arith, nat_tests)
-]
-
-pub partly_again : (p : Problem) (cs : List Choice) (fans : List Fan) (f : Fan) (j : ℕ) (m : ℕ) (rows : List Row) → next_from (length cs) f.to ≡ Some j → is_next_of fans (length cs) j ≡ true → partly p cs (fans ++ f ∷ []) m rows ≡ partly p cs fans m rows
-partly_again p cs fans f j m rows is has =
-    partly_same p cs (fans ++ f ∷ []) fans m rows (λ i past. any_push (λ f. is_at (next_from (length cs) f.to) i) fans f ∙ ap (λ (o : Option ℕ). is_next_of fans (length cs) i || is_at o i) is ∙ again (is_next_of fans (length cs) i) j i (is_next_of fans (length cs)) has refl)
-
-push_is : (cs : List Choice) (fans : List Fan) (f : Fan) (j i : ℕ) → next_from (length cs) f.to ≡ Some j → is_next_of (fans ++ f ∷ []) (length cs) i ≡ (is_next_of fans (length cs) i || eqb j i)
-push_is cs fans f j i is = any_push (λ f. is_at (next_from (length cs) f.to) i) fans f ∙ ap (λ (o : Option ℕ). is_next_of fans (length cs) i || is_at o i) is
-
-other_one : (a : Bool) (j i : ℕ) → j ≢ i → (a || eqb j i) ≡ a
+other_one : (a : Bool) (j i : ℕ) → i ≢ j → (a || eqb i j) ≡ a
 other_one true j i apart = refl
 other_one false j i apart = grind (arith, nat_tests)
 
--- the first fan with its next consumer
-pub partly_first : (p : Problem) (cs : List Choice) (fans : List Fan) (f : Fan) (j : ℕ) (m : ℕ) (rows : List Row) → next_from (length cs) f.to ≡ Some j → is_next_of fans (length cs) j ≡ false → m ≤ j → j < m + length rows
-    → partly p cs (fans ++ f ∷ []) m rows + least_at p.fans (before_last cs) j (get_or rows (j - m) []) ≡ partly p cs fans m rows + least_at p.fans cs j (get_or rows (j - m) [])
+pub partly_more : (p : Problem) (cs : List Choice) (numbers : List ℕ) (j : ℕ) (m : ℕ) (rows : List Row) → has numbers j ≡ false → m ≤ j → j < m + length rows
+    → partly p cs (numbers ++ j ∷ []) m rows + least_at p.fans (before_last cs) j (get_or rows (j - m) []) ≡ partly p cs numbers m rows + least_at p.fans cs j (get_or rows (j - m) [])
 unfolding partly
-partly_first p cs fans f j m [] is none past within = absurd (omega arith)
-partly_first p cs fans f j m (row ∷ rows) is none past within = elim (cases_eq m j) [
+partly_more p cs numbers j m [] none past within = absurd (omega arith)
+partly_more p cs numbers j m (row ∷ rows) none past within = elim (cases_eq m j) [
   | inl here ↦ (
-      let equal : eqb j m ≡ true = grind (arith, nat_tests) in
-      let one : is_next_of (fans ++ f ∷ []) (length cs) m ≡ true = push_is cs fans f j m is ∙ ap (λ (b : Bool). is_next_of fans (length cs) m || b) equal ∙ or_true (is_next_of fans (length cs) m) in
-      let two : is_next_of fans (length cs) m ≡ false = ap (λ (i : ℕ). is_next_of fans (length cs) i) here ∙ none in
+      let equal : eqb m j ≡ true = grind (arith, nat_tests) in
+      let one : has (numbers ++ j ∷ []) m ≡ true = has_push numbers j m ∙ ap (λ (b : Bool). has numbers m || b) equal ∙ or_true (has numbers m) in
+      let two : has numbers m ≡ false = ap (λ (i : ℕ). has numbers i) here ∙ none in
       let first = ap (λ (b : Bool). cond b (least_at p.fans cs m row) (least_at p.fans (before_last cs) m row)) one in
       let second = ap (λ (b : Bool). cond b (least_at p.fans cs m row) (least_at p.fans (before_last cs) m row)) two in
       let nothing : j - m ≡ 0 = omega arith in
       let place : get_or (row ∷ rows) (j - m) [] ≡ row = ap (λ (i : ℕ). get_or (row ∷ rows) i []) nothing in
       let low = ap (λ (i : ℕ). least_at p.fans (before_last cs) i (get_or (row ∷ rows) (j - m) [])) (sym here) ∙ ap (least_at p.fans (before_last cs) m) place in
       let high = ap (λ (i : ℕ). least_at p.fans cs i (get_or (row ∷ rows) (j - m) [])) (sym here) ∙ ap (least_at p.fans cs m) place in
-      let rest = partly_same p cs (fans ++ f ∷ []) fans (m + 1) rows (λ i above. push_is cs fans f j i is ∙ other_one (is_next_of fans (length cs) i) j i (omega arith)) in
+      let rest = partly_same p cs (numbers ++ j ∷ []) numbers (m + 1) rows (λ i above. has_push numbers j i ∙ other_one (has numbers i) j i (omega arith)) in
       omega (arith, first, second, low, high, rest))
   | inr apart ↦ (
-      let same : is_next_of (fans ++ f ∷ []) (length cs) m ≡ is_next_of fans (length cs) m = push_is cs fans f j m is ∙ other_one (is_next_of fans (length cs) m) j m (omega arith) in
+      let same : has (numbers ++ j ∷ []) m ≡ has numbers m = has_push numbers j m ∙ other_one (has numbers m) j m apart in
       let first = ap (λ (b : Bool). cond b (least_at p.fans cs m row) (least_at p.fans (before_last cs) m row)) same in
       let place : get_or (row ∷ rows) (j - m) [] ≡ get_or rows (j - (m + 1)) [] = ap (λ (i : ℕ). get_or (row ∷ rows) i []) (later j m (omega arith)) in
       let low = ap (least_at p.fans (before_last cs) j) place in
       let high = ap (least_at p.fans cs j) place in
-      let rest = partly_first p cs fans f j (m + 1) rows is none (omega arith) (omega arith) in
+      let rest = partly_more p cs numbers j (m + 1) rows none (omega arith) (omega arith) in
       omega (arith, first, low, high, rest))
 ]
   where
     later : (j m : ℕ) → m < j → j - m ≡ suc (j - (m + 1))
     later j m above = omega arith
+
+-- a number of a list without repeats is none of those before it
+fresh : (numbers : List ℕ) (i : ℕ) → IsDistinct eqb numbers → i < length numbers → has (take i numbers) (get_or numbers i 0) ≡ false
+fresh [] i apart within = absurd (omega arith)
+fresh (x ∷ numbers) zero apart within = refl
+fresh (x ∷ numbers) (suc i) apart within =
+    let first = apart_from_distinct eqb (x ∷ numbers) 0 (suc i) 0 apart (omega arith) within in
+    let other : eqb (get_or numbers i 0) x ≡ false = grind (arith, nat_tests) in
+    rw other (fresh numbers i (IsDistinct-tail eqb x numbers apart) (omega arith))
+
+lead_within : (k n m : ℕ) (fans : List Fan) → All (IsFan n) fans → lead_to fans k m ≡ true → (k ≤ m) × (m < n)
+lead_within k n m [] all leads = absurd (cc)
+lead_within k n m (f ∷ fans) all leads = by_first (lead_within k n m fans (All-tail (IsFan n) f fans all)) (next_from k f.to) refl
+  where
+    by_at : (lead_to fans k m ≡ true → (k ≤ m) × (m < n)) → (j : ℕ) → next_from k f.to ≡ Some j → (b : Bool) → eqb j m ≡ b → (k ≤ m) × (m < n)
+    by_at rest j is true at =
+        let same : j ≡ m = grind (arith, nat_tests) in
+        let fan = All-head (IsFan n) f fans all in
+        let within = next_within k f.to f.from n j fan.ascends is in
+        (let low = within.0 in omega (arith, low, same), let high = within.1 in omega (arith, high, same))
+    by_at rest j is false at = rest (rw (is, at) at leads)
+
+    by_first : (lead_to fans k m ≡ true → (k ≤ m) × (m < n)) → (o : Option ℕ) → next_from k f.to ≡ o → (k ≤ m) × (m < n)
+    by_first rest None is = rest (rw is at leads)
+    by_first rest (Some j) is = by_at rest j is (eqb j m) refl
+
+-- what a problem keeps for the last module of the prefix
+pub following_of : (p : Problem) → IsProblem p → (cs : List Choice) → 0 < length cs → Fits p.own cs → (lists : List (List ℕ)) (item numbers : List ℕ) → lists ≡ p.following → item ≡ get_or lists (length cs - 1) item → numbers ≡ item → AreFollowing p.fans (length cs - 1) numbers
+following_of p problem cs some fits lists item numbers all is same =
+    let whole = Fits-within p.own cs fits in
+    let inside : length cs - 1 < length lists = omega (arith, whole, some, problem.touching.long, ap length all) in
+    let read : numbers ≡ get_or p.following (length cs - 1) [] = same ∙ is ∙ get_or_default lists (length cs - 1) item [] inside ∙ ap (λ (ls : List (List ℕ)). get_or ls (length cs - 1) []) all in
+    subst (AreFollowing p.fans (length cs - 1)) (sym read) (problem.touching.following (length cs - 1) (omega (arith, whole, some)))
+
+-- the modules that follow are past the prefix
+pub following_within : (p : Problem) → IsProblem p → (cs : List Choice) (numbers : List ℕ) → 0 < length cs → AreFollowing p.fans (length cs - 1) numbers → (i : ℕ) → i < length numbers → (length cs ≤ get_or numbers i 0) × (get_or numbers i 0 < length p.own)
+following_within p problem cs numbers some following i within =
+    let j = get_or numbers i 0 in
+    let here : eqb j j ≡ true = grind (arith, nat_tests) in
+    let has_it = list_any_at (λ n. eqb j n) numbers i 0 within here in
+    lead_within (length cs) (length p.own) j (filter (λ f. touches f (length cs - 1)) p.fans)
+    (All-filter (λ f. touches f (length cs - 1)) (IsFan (length p.own)) p.fans problem.fans)
+    (sym (following_are p cs numbers some following j) ∙ has_it)
+
+-- what one more of them changes
+pub rises_more : (p : Problem) → IsProblem p → (cs : List Choice) (numbers : List ℕ) → 0 < length cs → AreFollowing p.fans (length cs - 1) numbers → (i : ℕ) → i < length numbers
+    → partly p cs (take (i + 1) numbers) (length cs) (drop (length cs) p.own) + least_at p.fans (before_last cs) (get_or numbers i 0) (get_or p.own (get_or numbers i 0) []) ≡ partly p cs (take i numbers) (length cs) (drop (length cs) p.own) + least_at p.fans cs (get_or numbers i 0) (get_or p.own (get_or numbers i 0) [])
+rises_more p problem cs numbers some following i within =
+    let j = get_or numbers i 0 in
+    let inside = following_within p problem cs numbers some following i within in
+    let past = inside.0 in
+    let below = inside.1 in
+    let all = ap (λ (ns : List ℕ). partly p cs ns (length cs) (drop (length cs) p.own)) (take_more numbers i 0 within) in
+    let size = length-drop (length cs) p.own in
+    let step = partly_more p cs (take i numbers) j (length cs) (drop (length cs) p.own) (fresh numbers i following.apart within) past (omega (arith, size, past, below)) in
+    let back : length cs + (j - length cs) ≡ j = omega arith in
+    let row : get_or (drop (length cs) p.own) (j - length cs) [] ≡ get_or p.own j [] = get_or-drop (length cs) p.own (j - length cs) [] ∙ ap (λ (k : ℕ). get_or p.own k []) back in
+    let low = ap (least_at p.fans (before_last cs) j) row in
+    let high = ap (least_at p.fans cs j) row in
+    omega (arith, all, step, low, high)
 
 -- ---- what a rise is made of
 
@@ -233,46 +281,6 @@ rise_facts p problem cs some fits =
     let own = own_sum_more p.own cs (length cs - 1) A (omega arith) in
     let due_here = ap (λ (i : ℕ). due p.fans prefix i (sharing_of c)) split.1 in
     (omega (arith, more, here, rest, falls, one, two), omega (arith, grows, cost, own_same, own_all, own, due_here))
-
--- ---- the fans that are looked at so far
-
-pub take_item : (fans : List Fan) (i : ℕ) (item : Fan) → i < length fans → item ≡ get_or fans i item → take (i + 1) fans ≡ take i fans ++ item ∷ []
-take_item fans i item within is = take_more fans i item within ∙ ap (λ (f : Fan). take i fans ++ f ∷ []) (sym is)
-
-pub next_of_more : (fans : List Fan) (k i number : ℕ) (item : Fan) → i < length fans → item ≡ get_or fans i item → is_next_of (take (i + 1) fans) k number ≡ (is_next_of (take i fans) k number || is_at (next_from k item.to) number)
-next_of_more fans k i number item within is = ap (λ xs. is_next_of xs k number) (take_item fans i item within is) ∙ any_push (λ f. is_at (next_from k f.to) number) (take i fans) item
-
-any_taken : (test : Fan → Bool) (xs : List Fan) (n i : ℕ) (item : Fan) → i < n → i < length xs → item ≡ get_or xs i item → test item ≡ true → list_any test (take n xs) ≡ true
-any_taken test [] n i item before within is passes = absurd (omega arith)
-any_taken test (x ∷ xs) zero i item before within is passes = absurd (omega arith)
-any_taken test (x ∷ xs) (suc n) zero item before within is passes = let first : test x ≡ true = ap test (sym is) ∙ passes in rw first refl
-any_taken test (x ∷ xs) (suc n) (suc i) item before within is passes = rw (any_taken test xs n i item (omega arith) (omega arith) is passes) (or_true (test x))
-
-pub next_of_found : (fans : List Fan) (k n i number : ℕ) (item : Fan) → i < n → i < length fans → item ≡ get_or fans i item → is_at (next_from k item.to) number ≡ true → is_next_of (take n fans) k number ≡ true
-next_of_found fans k n i number item before within is at = any_taken (λ f. is_at (next_from k f.to) number) fans n i item before within is at
-
--- what one more fan changes
-pub rises_idle : (p : Problem) (cs : List Choice) (fans : List Fan) (i : ℕ) (item : Fan) → i < length fans → item ≡ get_or fans i item → next_from (length cs) item.to ≡ None
-    → partly p cs (take (i + 1) fans) (length cs) (drop (length cs) p.own) ≡ partly p cs (take i fans) (length cs) (drop (length cs) p.own)
-rises_idle p cs fans i item within is none =
-    ap (λ xs. partly p cs xs (length cs) (drop (length cs) p.own)) (take_item fans i item within is) ∙ partly_idle p cs (take i fans) item (length cs) (drop (length cs) p.own) none
-
-pub rises_again : (p : Problem) (cs : List Choice) (fans : List Fan) (i : ℕ) (item : Fan) (j : ℕ) → i < length fans → item ≡ get_or fans i item → next_from (length cs) item.to ≡ Some j → is_next_of (take i fans) (length cs) j ≡ true
-    → partly p cs (take (i + 1) fans) (length cs) (drop (length cs) p.own) ≡ partly p cs (take i fans) (length cs) (drop (length cs) p.own)
-rises_again p cs fans i item j within is next has =
-    ap (λ xs. partly p cs xs (length cs) (drop (length cs) p.own)) (take_item fans i item within is) ∙ partly_again p cs (take i fans) item j (length cs) (drop (length cs) p.own) next has
-
-pub rises_first : (p : Problem) (cs : List Choice) (fans : List Fan) (i : ℕ) (item : Fan) (j : ℕ) → i < length fans → item ≡ get_or fans i item → next_from (length cs) item.to ≡ Some j → is_next_of (take i fans) (length cs) j ≡ false → length cs ≤ j → j < length p.own
-    → partly p cs (take (i + 1) fans) (length cs) (drop (length cs) p.own) + least_at p.fans (before_last cs) j (get_or p.own j []) ≡ partly p cs (take i fans) (length cs) (drop (length cs) p.own) + least_at p.fans cs j (get_or p.own j [])
-rises_first p cs fans i item j within is next none past below =
-    let all = ap (λ xs. partly p cs xs (length cs) (drop (length cs) p.own)) (take_item fans i item within is) in
-    let size = length-drop (length cs) p.own in
-    let step = partly_first p cs (take i fans) item j (length cs) (drop (length cs) p.own) next none past (omega (arith, size)) in
-    let back : length cs + (j - length cs) ≡ j = omega arith in
-    let row : get_or (drop (length cs) p.own) (j - length cs) [] ≡ get_or p.own j [] = get_or-drop (length cs) p.own (j - length cs) [] ∙ ap (λ (k : ℕ). get_or p.own k []) back in
-    let low = ap (least_at p.fans (before_last cs) j) row in
-    let high = ap (least_at p.fans cs j) row in
-    omega (arith, all, step, low, high)
 
 pub bound_before_le : (p : Problem) → IsProblem p → (cs : List Choice) → Fits p.own cs → bound_of p (before_last cs) ≤ bound_of p cs
 bound_before_le p problem cs fits =

@@ -14,8 +14,8 @@ use Rattle.choice_core.specs.declared.sharings.Sharing.TheVariants.{Arithmetic, 
 use Rattle.choice_core.specs.declared.problems.Fan.{Fan}
 use Rattle.choice_core.specs.declared.problems.Problem.{Problem}
 use Rattle.choice_core.specs.Choices.{sharing_of, same_sharing}
-use Rattle.choice_core.specs.Problems.{Row, own_of, price_of, own_sum, sharing_at, is_in, reaches, charge, fan_cost_from, fan_cost, Fits, HasChoice, Ascends, IsFan}
-use Rattle.choice_core.specs.Bound.{least, next_from, is_at, further_from, further, due, least_at, least_past, least_price, bound_of}
+use Rattle.choice_core.specs.Problems.{Row, own_of, price_of, own_sum, sharing_at, is_in, reaches, charge, fan_cost_from, fan_cost, Fits, HasChoice, Ascends, IsFan, next_from, is_at}
+use Rattle.choice_core.specs.Bound.{least, further_from, further, due, least_at, least_past, least_price, bound_of}
 use Rattle.choice_core.proofs.Sums.{sum_add, least_le, least_from, own_sum-append}
 
 slice_get-push_before : {X : Type 0} (xs : List X) (i : ℕ) (x : X) → i < length xs → slice_get (xs ++ x ∷ []) i ≡ slice_get xs i

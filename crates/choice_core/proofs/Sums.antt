@@ -1,5 +1,5 @@
 -- Sums over fans, least numbers, and rows with their choices.
-use Rattle.std.proofs.Common.{◌≡◌, ℕ, ◌+◌, ◌≤◌, min, List, [], ◌∷◌, ◌++◌, length, drop, Option, Some, None, IsSome, sym, ◌∙◌, ap, refl, inl, inr, ◌⊎◌, arith}
+use Rattle.std.proofs.Common.{◌≡◌, ℕ, ◌+◌, ◌≤◌, min, List, [], ◌∷◌, ◌++◌, length, drop, Option, Some, None, sym, ◌∙◌, ap, refl, inl, inr, ◌⊎◌, arith}
 use Rattle.std.specs.List.{sum_by, All}
 use Rattle.std.proofs.lemmas.List.Sums.{sum_by-cons}
 use Rattle.std.proofs.lemmas.List.Elements.{All-head, All-tail}
@@ -70,10 +70,6 @@ least_from f m is = elim (lesser_from (lesser (lesser (f A) (f Y)) (f C)) (f S) 
     | inl less ↦ elim (lesser_from (f A) (f Y) m less) [ inr e ↦ (Y, e) | inl e ↦ (A, e) ]
   ]
 ]
-
-pub some_of : {X : Type 0} (o : Option X) → IsSome o → (x : X) × (o ≡ Some x)
-some_of None some = absurd (cc)
-some_of (Some x) some = (x, refl)
 
 pub own_sum-append : (rows : List Row) (cs ds : List Choice) → own_sum rows (cs ++ ds) ≡ own_sum rows cs + own_sum (drop (length cs) rows) ds
 unfolding own_sum

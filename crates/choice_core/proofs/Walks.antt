@@ -8,7 +8,7 @@ use Rattle.choice_core.specs.contracts.sharings.Sharing.{the_type}
 use Rattle.choice_core.specs.declared.sharings.Sharing.{Sharing}
 use Rattle.choice_core.specs.declared.sharings.Sharing.TheVariants.{Arithmetic, Boolean, Yao}
 use Rattle.choice_core.specs.Choices.{same_sharing}
-use Rattle.choice_core.specs.Bound.{next_from}
+use Rattle.choice_core.specs.Problems.{next_from}
 
 pub same_is : (s t : Sharing) → sameb the_type s t ≡ same_sharing s t
 same_is Arithmetic Arithmetic = refl

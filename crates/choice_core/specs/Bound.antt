@@ -1,5 +1,5 @@
 -- A bound on the cost of every list of choices that begins with a prefix.
-use Rattle.std.specs.Prelude.{ℕ, ◌+◌, Bool, false, cond, ◌||◌, ◌==◌, nat_lt, min, List, [], ◌∷◌, length, drop, Option, Some, None, slice_index_or, sum_by, option_map, unwrap_or}
+use Rattle.std.specs.Prelude.{ℕ, ◌+◌, cond, ◌||◌, nat_lt, min, List, [], ◌∷◌, length, drop, Option, Some, None, slice_index_or, sum_by, option_map, unwrap_or}
 use Rattle.std.specs.Option.{option_and_then}
 use Rattle.choice_core.specs.declared.sharings.Choice.{Choice}
 use Rattle.choice_core.specs.declared.sharings.Choice.TheVariants.{A, Y, C, S}
@@ -7,7 +7,7 @@ use Rattle.choice_core.specs.declared.sharings.Sharing.{Sharing}
 use Rattle.choice_core.specs.declared.problems.Fan.{Fan}
 use Rattle.choice_core.specs.declared.problems.Problem.{Problem}
 use Rattle.choice_core.specs.Choices.{sharing_of, same_sharing}
-use Rattle.choice_core.specs.Problems.{Row, own_of, price_of, sharing_at, reaches, cost_of}
+use Rattle.choice_core.specs.Problems.{Row, own_of, price_of, sharing_at, reaches, cost_of, next_from, is_at}
 
 -- the lesser of two numbers, where none is greater than any
 unfoldable pub lesser : Option ℕ → Option ℕ → Option ℕ
@@ -18,15 +18,6 @@ lesser (Some a) (Some b) = Some (min a b)
 -- the least of what the four choices give
 abbrev pub least : (Choice → Option ℕ) → Option ℕ
 least f = lesser (lesser (lesser (f A) (f Y)) (f C)) (f S)
-
--- the first consumer that has no choice yet, where the first k modules have one
-unfoldable pub next_from : ℕ → List ℕ → Option ℕ
-next_from k [] = None
-next_from k (m ∷ ms) = cond (nat_lt m k) (next_from k ms) (Some m)
-
-abbrev pub is_at : Option ℕ → ℕ → Bool
-is_at None m = false
-is_at (Some k) m = k == m
 
 -- what one more consumer in sharing t adds to the cost of a fan: nothing where that sharing is the
 -- producer's or some consumer has it, and while the producer has no choice

@@ -1,6 +1,6 @@
 -- What a choice of circuits costs: own costs of modules, and conversions along fans.
-use Rattle.std.specs.Prelude.{◌≡◌, ℕ, ◌+◌, ◌*◌, ◌^◌, ◌<◌, Bool, false, cond, ◌&&◌, ◌||◌, ◌==◌, not, max, List, [], ◌∷◌, length, map, filter, Option, Some, None, IsSome, slice_get, slice_index, slice_index_or, sum_by, All, option_map, unwrap_or}
-use Rattle.std.specs.List.{list_any}
+use Rattle.std.specs.Prelude.{◌≡◌, ℕ, ◌+◌, ◌*◌, ◌^◌, ◌<◌, Bool, false, cond, ◌&&◌, ◌||◌, ◌==◌, nat_lt, not, max, List, [], ◌∷◌, length, map, filter, Option, Some, None, IsSome, slice_get, slice_index, slice_index_or, sum_by, All, option_map, unwrap_or}
+use Rattle.std.specs.List.{list_any, IsDistinct}
 use Rattle.choice_core.specs.declared.sharings.Choice.{Choice}
 use Rattle.choice_core.specs.declared.sharings.Choice.TheVariants.{A, Y, C, S}
 use Rattle.choice_core.specs.declared.sharings.Sharing.{Sharing}
@@ -99,10 +99,30 @@ touches f m = (f.from == m) || list_any (λ consumer. consumer == m) f.to
 abbrev pub AreTouching : List Fan → ℕ → List ℕ → Type 0
 AreTouching fans m numbers = map (λ i. slice_get fans i) numbers ≡ map (λ f. Some f) (filter (λ f. touches f m) fans)
 
--- for each module the numbers of the fans that touch it, in order
+-- the first consumer that isn't among the first k modules
+unfoldable pub next_from : ℕ → List ℕ → Option ℕ
+next_from k [] = None
+next_from k (m ∷ ms) = cond (nat_lt m k) (next_from k ms) (Some m)
+
+abbrev pub is_at : Option ℕ → ℕ → Bool
+is_at None m = false
+is_at (Some k) m = k == m
+
+-- whether one of the fans has module n as its first consumer past the first k modules
+abbrev pub lead_to : List Fan → ℕ → ℕ → Bool
+lead_to fans k n = list_any (λ f. is_at (next_from k f.to) n) fans
+
+-- the modules that the fans which touch a module have as their first consumers past it, each once
+pub record AreFollowing (fans : List Fan) (m : ℕ) (numbers : List ℕ) : Type 0 where
+  pub apart : IsDistinct (λ i j. i == j) numbers
+  pub are : (n : ℕ) → list_any (λ i. n == i) numbers ≡ lead_to (filter (λ f. touches f m) fans) (m + 1) n
+
+-- for each module the numbers of the fans that touch it, in order, and the modules that follow
 pub record IsIndexed (p : Problem) : Type 0 where
   pub size : length p.touching ≡ length p.own
   pub numbers : (m : ℕ) → m < length p.own → AreTouching p.fans m (slice_index_or p.touching m [])
+  pub long : length p.following ≡ length p.own
+  pub following : (m : ℕ) → m < length p.own → AreFollowing p.fans m (slice_index_or p.following m [])
 
 -- what a problem has to meet; every cost and every bound is then below 2 ^ 63
 pub record IsProblem (p : Problem) : Type 0 where

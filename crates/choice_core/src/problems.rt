@@ -1,9 +1,9 @@
 //! Modules with their own costs, and fans with their prices.
 
-ghost use Rattle.std.specs.Prelude.{◌≡◌, ℕ, ◌*◌, ◌^◌, ◌<◌, ◌≤◌, ◌++◌, [], ◌∷◌, cond, IsTrue, MatchOption, IfOk, OnOk, All, length, filter, replicate, slice_set, slice_index_or};
-ghost use Rattle.choice_core.specs.Bound.{next_from, further};
+ghost use Rattle.std.specs.Prelude.{◌≡◌, ℕ, ◌*◌, ◌^◌, ◌<◌, ◌≤◌, ◌++◌, [], ◌∷◌, cond, IsTrue, MatchOption, IfOk, OnOk, All, length, filter, replicate, ◌==◌, ◌+◌, slice_set, slice_index, slice_index_or};
+ghost use Rattle.choice_core.specs.Bound.{further};
 ghost use Rattle.choice_core.specs.Choices.{rank};
-ghost use Rattle.choice_core.specs.Problems.{Row, own_of, price_of, sharing_at, is_in, reaches, charge, fan_cost, greatest_price, touches, IsFan, AreTouching, IsIndexed};
+ghost use Rattle.choice_core.specs.Problems.{Row, own_of, price_of, sharing_at, is_in, reaches, charge, fan_cost, greatest_price, touches, IsFan, AreTouching, AreFollowing, IsIndexed, next_from};
 
 use crate::lists::Sequence;
 use crate::sharings::{Choice, Sharing};
@@ -35,13 +35,14 @@ pub struct Fan {
     pub price: [[u64; 3]; 3],
 }
 
-/// For each module its own cost by choice, `None` where the choice isn't allowed; the fans; and for
-/// each module the numbers of the fans that touch it.
+/// For each module its own cost by choice, `None` where the choice isn't allowed; the fans; for each
+/// module the numbers of the fans that touch it, and those of the modules that these fans go on to.
 #[derive(Drop)]
 pub struct Problem {
     pub own: Sequence<[Option<u64>; 4]>,
     pub fans: Sequence<Fan>,
     pub touching: Sequence<Sequence<u32>>,
+    pub following: Sequence<Sequence<u32>>,
 }
 
 /// Puts a fan's number behind those of a module.
@@ -103,8 +104,75 @@ fn touching_lists(alloc: Global, count: usize, fans: &[Fan]) -> Result<Vec<Seque
     Ok(lists)
 }
 
+/// Puts a module behind the others of a list, unless its mark says that it is among them.
+fn add_once(
+    list: &mut Sequence<u32>,
+    marks: &mut [usize],
+    next: usize,
+    mark: usize,
+) -> Result<(), Memory>
+    requires within { next < length marks.old }
+    requires small { next < 2 ^ 32 }
+    ensures marks { OnOk result (marks.new ≡ slice_set marks.old next mark) }
+    ensures list { OnOk result (list.new ≡ cond (slice_index marks.old next == mark) list.old (list.old ++ next ∷ [])) }
+{
+    let listed = marks[next] == mark;
+    marks[next] = mark;
+    if !listed {
+        list.push(next as u32)?;
+    }
+    Ok(())
+}
+
+/// The modules that the fans which touch a module go on to, each once. The marks of those are left
+/// greater than the module's number, which no mark was before.
+fn following_list(
+    alloc: Global,
+    fans: &[Fan],
+    touching: &[u32],
+    number: usize,
+    marks: &mut [usize],
+) -> Result<Sequence<u32>, Memory>
+    requires fans { All (IsFan (length marks.old)) fans.now }
+    requires touching { AreTouching fans.now number touching.now }
+    requires within { number < length marks.old }
+    requires marks { (n : ℕ) → n < length marks.old → slice_index marks.old n ≤ number }
+    ensures following { IfOk result (λ list. AreFollowing fans.now number list) }
+    ensures size { OnOk result (length marks.new ≡ length marks.old) }
+    ensures marks { OnOk result ((n : ℕ) → n < length marks.old → slice_index marks.new n ≤ number + 1) }
+{
+    let mut list = Sequence::new(Vec::new(alloc));
+    for place in touching {
+        if let Some(next) = fans[*place as usize].next_from(number + 1) {
+            add_once(&mut list, marks, next, number + 1)?;
+        }
+    }
+    Ok(list)
+}
+
+/// For each of the modules those that the fans which touch it go on to, each once.
+fn following_lists(
+    alloc: Global,
+    fans: &[Fan],
+    touching: &[Sequence<u32>],
+) -> Result<Vec<Sequence<u32>>, Memory>
+    requires fans { All (IsFan (length touching.now)) fans.now }
+    requires touching { (m : ℕ) → m < length touching.now → AreTouching fans.now m (slice_index_or touching.now m []) }
+    ensures size { IfOk result (λ lists. length lists.items ≡ length touching.now) }
+    ensures following { IfOk result (λ lists. (m : ℕ) → m < length touching.now → AreFollowing fans.now m (slice_index_or lists.items m [])) }
+{
+    let mut marks = vec![in alloc; 0; touching.len()]?;
+    let mut lists = Vec::with_capacity(alloc, touching.len())?;
+    for (number, places) in touching.iter().enumerate() {
+        let marks = marks.as_mut_slice();
+        lists.push(following_list(alloc, fans, places.as_slice(), number, marks)?)?;
+    }
+    Ok(lists)
+}
+
 impl Problem {
-    /// The problem of these modules and fans. The time is linear in all fans' consumers.
+    /// The problem of these modules and fans. The time is that of one pass over a fan's consumers
+    /// for each module that the fan touches.
     pub fn of(
         alloc: Global,
         own: Sequence<[Option<u64>; 4]>,
@@ -116,11 +184,13 @@ impl Problem {
         ensures fans { IfOk result (λ p. p.fans ≡ fans) }
         ensures touching { IfOk result (λ p. IsIndexed p) }
     {
-        let lists = touching_lists(alloc, own.as_slice().len(), fans.as_slice())?;
+        let touching = touching_lists(alloc, own.as_slice().len(), fans.as_slice())?;
+        let following = following_lists(alloc, fans.as_slice(), touching.as_slice())?;
         Ok(Problem {
             own,
             fans,
-            touching: Sequence::new(lists),
+            touching: Sequence::new(touching),
+            following: Sequence::new(following),
         })
     }
 
@@ -225,7 +295,8 @@ impl Fan {
 
     /// The first consumer that isn't among the first `count` modules.
     pub fn next_from(&self, count: usize) -> Option<usize>
-        ensures { result ≡ next_from count self.now.to }
+        ensures is { result ≡ next_from count self.now.to }
+        ensures small { MatchOption result (Unit {0}) (λ n. n < 2 ^ 32) }
     {
         for consumer in self.to.as_slice() {
             let number = *consumer as usize;

@@ -1,30 +1,29 @@
 //! By how much a bound rises with one more choice.
 
-ghost use Rattle.std.specs.Prelude.{◌≡◌, ◌+◌, ◌-◌, ◌<◌, ◌≤◌, length, drop, take, filter, slice_index_or, []};
+ghost use Rattle.std.specs.Prelude.{◌≡◌, ◌+◌, ◌-◌, ◌^◌, ◌<◌, ◌≤◌, length, sum_by, drop, filter, slice_index_or, []};
 ghost use Rattle.choice_core.specs.Problems.{Fits, IsProblem, touches};
 ghost use Rattle.choice_core.specs.Bound.{least_at, least_past, bound_of};
-ghost use Rattle.choice_core.specs.Growing.{before_last, is_next_of, partly};
+ghost use Rattle.choice_core.specs.Growing.{before_last, lost};
 
-use crate::bounds::{due, least_at};
-use crate::growing::lost_sum;
+use crate::bounds::{due, least_at, least_price};
 use crate::problems::{Problem, own_cost};
 use crate::sharings::Choice;
 
-/// Whether one of the first fans that touch the last module of the prefix has this next consumer.
-fn is_next(problem: &Problem, prefix: &[Choice], count: usize, number: usize) -> bool
+/// The least prices of the fans whose producer is the module, of those that touch it.
+fn lost_sum(problem: &Problem, number: usize) -> u64
     requires problem { IsProblem problem.now }
-    requires some { 0 < length prefix.now }
-    requires fits { Fits problem.now.own prefix.now }
-    requires count { count ≤ length (filter (λ f. touches f (length prefix.now - 1)) problem.now.fans) }
-    ensures { result ≡ is_next_of (take count (filter (λ f. touches f (length prefix.now - 1)) problem.now.fans)) (length prefix.now) number }
+    requires within { number < length problem.now.own }
+    requires small { sum_by (lost problem.now.own number) (filter (λ f. touches f number) problem.now.fans) < 2 ^ 64 }
+    ensures { result ≡ sum_by (lost problem.now.own number) (filter (λ f. touches f number) problem.now.fans) }
 {
-    for place in 0..count {
-        let fan = problem.touching_fan(prefix.len() - 1, place);
-        if fan.next_from(prefix.len()) == Some(number) {
-            return true;
+    let mut total = 0;
+    for place in 0..problem.touching_count(number) {
+        let fan = problem.touching_fan(number, place);
+        if fan.from as usize == number {
+            total += least_price(problem.own.as_slice(), fan);
         }
     }
-    false
+    total
 }
 
 /// By how much the least that a module adds rises with the last choice of the prefix.
@@ -39,45 +38,25 @@ fn rise_at(problem: &Problem, prefix: &[Choice], number: usize) -> u64
     least_at(problem, prefix, number) - least_at(problem, before, number)
 }
 
-/// By how much a fan that touches the last module raises what its next consumer adds, where no such
-/// fan before it has the same one.
-fn rise_by(problem: &Problem, prefix: &[Choice], place: usize) -> u64
-    requires problem { IsProblem problem.now }
-    requires some { 0 < length prefix.now }
-    requires fits { Fits problem.now.own prefix.now }
-    requires place { place < length (filter (λ f. touches f (length prefix.now - 1)) problem.now.fans) }
-    ensures { partly problem.now prefix.now (take place (filter (λ f. touches f (length prefix.now - 1)) problem.now.fans)) (length prefix.now) (drop (length prefix.now) problem.now.own) + result
-        ≡ partly problem.now prefix.now (take (place + 1) (filter (λ f. touches f (length prefix.now - 1)) problem.now.fans)) (length prefix.now) (drop (length prefix.now) problem.now.own) }
-{
-    let fan = problem.touching_fan(prefix.len() - 1, place);
-    let Some(next) = fan.next_from(prefix.len()) else {
-        return 0;
-    };
-    if is_next(problem, prefix, place, next) {
-        0
-    } else {
-        rise_at(problem, prefix, next)
-    }
-}
-
-/// By how much the last choice of the prefix raises what the modules past it add.
+/// By how much the last choice of the prefix raises what the modules past it add: those alone that
+/// follow the last module.
 fn rise_past(problem: &Problem, prefix: &[Choice]) -> u64
     requires problem { IsProblem problem.now }
     requires some { 0 < length prefix.now }
     requires fits { Fits problem.now.own prefix.now }
     ensures { least_past problem.now.fans (before_last prefix.now) (length prefix.now) (drop (length prefix.now) problem.now.own) + result ≡ least_past problem.now.fans prefix.now (length prefix.now) (drop (length prefix.now) problem.now.own) }
 {
+    let following = problem.following.as_slice()[prefix.len() - 1].as_slice();
     let mut total = 0;
-    for place in 0..problem.touching_count(prefix.len() - 1) {
-        total += rise_by(problem, prefix, place);
+    for number in following {
+        total += rise_at(problem, prefix, *number as usize);
     }
     total
 }
 
 /// By how much the bound of a prefix exceeds that of the prefix without its last choice. It takes no
-/// memory. Its time is that of `due` at the last module and at the next consumer of each fan that
-/// touches it, and to find each of these consumers once, of as many steps as there are pairs of such
-/// fans.
+/// memory. Its time is linear in the consumers of the fans that touch the last module, and of those
+/// that touch the modules which these fans go on to.
 pub fn rise(problem: &Problem, prefix: &[Choice]) -> u64
     requires problem { IsProblem problem.now }
     requires some { 0 < length prefix.now }

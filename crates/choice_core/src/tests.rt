@@ -1,6 +1,6 @@
 ghost use Rattle.std.specs.Prelude.{◌≡◌, ◌≢◌, ◌+◌, ◌*◌, ◌<◌, ◌≤◌, ◌^◌, List, length, All, IfOk, IsSome};
 ghost use Rattle.choice_core.specs.declared.sharings.Choice.{Choice};
-ghost use Rattle.choice_core.specs.Problems.{own_of, Fits, IsFan, IsProblem, greatest_own, greatest_price};
+ghost use Rattle.choice_core.specs.Problems.{own_of, Fits, IsAssignment, IsFan, IsProblem, greatest_own, greatest_price};
 
 use crate::*;
 use std::alloc::{AllocError, Global};
@@ -149,20 +149,15 @@ fn compare_bounds(rt: &impl Abort, problem: &Problem, least: &[u64], prefix: &mu
 }
 
 /// Grows the bound along a list of choices, and compares it with the plain one.
-fn compare_growth(rt: &impl Abort, problem: &Problem, choices: &[Choice], table: &mut [[u64; 3]])
+fn compare_growth(rt: &impl Abort, problem: &Problem, choices: &[Choice])
     requires problem { IsProblem problem.now }
-    requires size { length table.old ≡ length problem.now.own }
     requires fits { Fits problem.now.own choices.now }
 {
-    clear(problem, table);
     let mut grown = bound(problem, &choices[..0]);
     for count in 0..choices.len() {
         let prefix = &choices[..count + 1];
-        let before = grown;
-        let places = problem.touching.as_slice()[count].as_slice();
-        grown = grow(problem, places, prefix, table, grown);
+        grown = grown.saturating_add(rise(problem, prefix));
         assert_eq!(rt; grown, bound(problem, prefix));
-        assert_eq!(rt; rise(problem, prefix), grown.saturating_sub(before));
     }
 }
 
@@ -228,10 +223,80 @@ fn a_ladder_of_sixteen_leaves_costs_eight_at_yao(rt: HostRuntime) -> Result<(), 
 fn a_bound_grows_as_the_plain_one(rt: HostRuntime) -> Result<(), Fail> {
     let problem = ladder(rt.alloc(), 3)?;
     let mut choices = [Choice::Y; 7];
-    let mut table = [[0u64; 3]; 7];
     for number in 0..2187 {
         write_list(number, &mut choices);
-        compare_growth(&rt, &problem, &choices, &mut table);
+        compare_growth(&rt, &problem, &choices);
+    }
+    Ok(())
+}
+
+/// One module with as many fans as there are others: each other one uses one of them, or the first
+/// of them uses all. Each module would like Y.
+fn star(alloc: Global, leaves: u32, shared: bool) -> Result<Problem, hy_bits::Memory>
+    requires some { 0 < leaves }
+    requires few { leaves < 2 ^ 20 }
+    ensures problem { IfOk result (λ p. IsProblem p) }
+    ensures count { IfOk result (λ p. length p.own ≡ leaves + 1) }
+    ensures boolean { IfOk result (λ p. (cs : List Choice) → All (λ c. c ≢ Choice.A) cs → length cs ≤ length p.own → Fits p.own cs) }
+{
+    let count = leaves + 1;
+    let mut own = Vec::new(alloc);
+    for _ in 0..count {
+        own.push([None, Some(0), Some(5000), Some(5000)])?;
+    }
+    let mut fans = Vec::new(alloc);
+    for leaf in 0..leaves {
+        fans.push(edge(alloc, 0, consumer(leaf, shared), count)?)?;
+    }
+    Problem::of(alloc, Sequence::new(own), Sequence::new(fans))
+}
+
+/// The consumer of a fan of `star`.
+fn consumer(leaf: u32, shared: bool) -> u32
+    requires { leaf < 2 ^ 20 }
+    ensures some { 0 < result }
+    ensures within { result ≤ leaf + 1 }
+{
+    if shared { 1 } else { leaf + 1 }
+}
+
+/// C for the first module of `star`, and Y for the others.
+fn star_choices(alloc: Global, leaves: u32) -> Result<Vec<Choice>, AllocError>
+    ensures others { IfOk result (λ cs. All (λ c. c ≢ Choice.A) cs.items) }
+    ensures count { IfOk result (λ cs. length cs.items ≡ leaves + 1) }
+{
+    let mut choices = Vec::new(alloc);
+    choices.push(Choice::C)?;
+    for _ in 0..leaves {
+        choices.push(Choice::Y)?;
+    }
+    Ok(choices)
+}
+
+/// Grows the bound of a star along a list of choices, and reckons its first rise hundreds of times.
+fn compare_star(rt: &impl Abort, problem: &Problem, choices: &[Choice], first: u64)
+    requires problem { IsProblem problem.now }
+    requires some { 0 < length choices.now }
+    requires assigned { IsAssignment problem.now choices.now }
+{
+    let mut grown = bound(problem, &choices[..0]);
+    assert_eq!(rt; grown, 0);
+    for count in 0..choices.len() {
+        grown = grown.saturating_add(rise(problem, &choices[..count + 1]));
+    }
+    assert_eq!(rt; grown, cost(problem, choices));
+    for _ in 0..300usize {
+        assert_eq!(rt; rise(problem, &choices[..1]), first);
+    }
+}
+
+#[test]
+fn a_rise_at_twenty_thousand_fans_takes_no_time_of_pairs(rt: HostRuntime) -> Result<(), Fail> {
+    for (shared, first) in [(false, 20_005_000), (true, 10_000)] {
+        let problem = star(rt.alloc(), 20_000, shared)?;
+        let choices = star_choices(rt.alloc(), 20_000)?;
+        compare_star(&rt, &problem, choices.as_slice(), first);
+        assert_eq!(rt; cost(&problem, choices.as_slice()), 20_005_000);
     }
     Ok(())
 }
@@ -242,5 +307,15 @@ fn a_middle_module_is_touched_by_its_two_edges(rt: HostRuntime) -> Result<(), Fa
     let touching = problem.touching.as_slice();
     assert_eq!(rt; touching[2].as_slice(), [0, 1].as_slice());
     assert_eq!(rt; touching[4].as_slice(), [1, 3].as_slice());
+    Ok(())
+}
+
+#[test]
+fn each_module_is_followed_by_those_that_its_fans_go_on_to(rt: HostRuntime) -> Result<(), Fail> {
+    let problem = ladder(rt.alloc(), 2)?;
+    let following = problem.following.as_slice();
+    assert_eq!(rt; following[0].as_slice(), [2].as_slice());
+    assert_eq!(rt; following[2].as_slice(), [4].as_slice());
+    assert_eq!(rt; following[4].as_slice(), [].as_slice());
     Ok(())
 }

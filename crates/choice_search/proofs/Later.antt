@@ -37,14 +37,7 @@ unfolding IsLater
 later_behind [] c d cs ds more = inl more
 later_behind (b ∷ prefix) c d cs ds more = inr (refl, later_behind prefix c d cs ds more)
 
--- what extends a list isn't later than it, nor it than that
-pub not_later_longer : (cs rest : List Choice) → IsLater (cs ++ rest) cs → ⊥
-unfolding IsLater
-not_later_longer [] [] later = later
-not_later_longer [] (c ∷ rest) later = later
-not_later_longer (c ∷ cs) rest (inl more) = omega (arith, more)
-not_later_longer (c ∷ cs) rest (inr (same, later)) = not_later_longer cs rest later
-
+-- a list isn't later than one that extends it
 pub not_later_shorter : (cs rest : List Choice) → IsLater cs (cs ++ rest) → ⊥
 unfolding IsLater
 not_later_shorter [] rest later = later

@@ -1,10 +1,11 @@
-ghost use Rattle.std.specs.Prelude.{◌≡◌, ◌<◌, ◌≤◌, IfOk};
+ghost use Rattle.std.specs.Prelude.{◌≡◌, ◌<◌, ◌≤◌, ◌^◌, length, IfOk};
 ghost use Rattle.choice_core.specs.declared.sharings.Sharing.{Sharing};
 ghost use Rattle.choice_core.specs.declared.problems.Fan.{Fan};
-ghost use Rattle.choice_core.specs.Problems.{HasChoice, IsFan, IsProblem, price_of, greatest_own, greatest_price};
+ghost use Rattle.choice_core.specs.Problems.{HasChoice, IsAssignment, IsFan, IsProblem, price_of, greatest_own, greatest_price};
 
 use crate::{SearchFault, best};
-use choice_core::{Choice, Fan, Problem, Sequence, TreeNode, cost};
+use choice_check::check;
+use choice_core::{Choice, Fan, Problem, Sequence, Tree, TreeNode, cost};
 use hy_bits::Memory;
 use std::alloc::{AllocError, Global};
 use std::process::Abort;
@@ -140,7 +141,8 @@ fn small_price(seed: u64) -> [[u64; 3]; 3]
 
 /// Four modules and five fans by a seed.
 fn small(rt: &impl Abort, alloc: Global, seed: u64) -> Result<Problem, Memory>
-    ensures { IfOk result (λ p. IsProblem p) }
+    ensures problem { IfOk result (λ p. IsProblem p) }
+    ensures count { IfOk result (λ p. length p.own ≡ 4) }
 {
     let mut own = Vec::new(alloc);
     let mut random = seed;
@@ -230,14 +232,97 @@ fn plain_best(problem: &Problem) -> ([Choice; 4], u64) {
     (list, least)
 }
 
+/// The tree of these nodes, with another one at a place.
+fn altered(
+    alloc: Global,
+    nodes: &[TreeNode],
+    place: usize,
+    other: TreeNode,
+) -> Result<Tree, AllocError>
+    ensures { IfOk result (λ t. length t.nodes ≤ length nodes.now) }
+{
+    let mut list = Vec::new(alloc);
+    for (number, node) in nodes.iter().enumerate() {
+        list.push(if number == place { other } else { *node })?;
+    }
+    Ok(Tree {
+        nodes: Sequence::new(list),
+    })
+}
+
+/// What may not stand in place of a node: a leaf's number one higher or lower, the other kind of
+/// node, and for a branch the leaf with the least cost too.
+fn others(node: TreeNode, cost: u64) -> [Option<TreeNode>; 3] {
+    match node {
+        TreeNode::Branch => [Some(TreeNode::Leaf(0)), Some(TreeNode::Leaf(cost)), None],
+        TreeNode::Leaf(0) => [Some(TreeNode::Leaf(1)), Some(TreeNode::Branch), None],
+        TreeNode::Leaf(bound) => [
+            Some(TreeNode::Leaf(bound.saturating_add(1))),
+            Some(TreeNode::Leaf(bound.saturating_sub(1))),
+            Some(TreeNode::Branch),
+        ],
+    }
+}
+
+/// Alters one node of a tree in each way, and checks each tree that comes of it.
+fn refuse_altered(
+    rt: &impl Abort,
+    alloc: Global,
+    problem: &Problem,
+    choices: &[Choice],
+    nodes: &[TreeNode],
+    place: usize,
+) -> Result<(), AllocError>
+    requires problem { IsProblem problem.now }
+    requires assigned { IsAssignment problem.now choices.now }
+    requires four { length problem.now.own ≡ 4 }
+    requires few { length nodes.now < 2 ^ 32 }
+    requires place { place < length nodes.now }
+{
+    for other in others(nodes[place], cost(problem, choices)) {
+        let Some(node) = other else {
+            return Ok(());
+        };
+        let tree = altered(alloc, nodes, place, node)?;
+        let mut buffer = [Choice::A; 4];
+        assert!(rt; check(problem, choices, &tree, &mut buffer).is_err());
+    }
+    Ok(())
+}
+
+/// Checks a tree, and each one that comes of it with one node altered.
+fn compare_trees(
+    rt: &impl Abort,
+    alloc: Global,
+    problem: &Problem,
+    choices: &[Choice],
+    tree: &Tree,
+) -> Result<(), AllocError>
+    requires problem { IsProblem problem.now }
+    requires assigned { IsAssignment problem.now choices.now }
+    requires four { length problem.now.own ≡ 4 }
+    requires few { length tree.now.nodes < 2 ^ 32 }
+{
+    let mut buffer = [Choice::A; 4];
+    assert_eq!(rt; check(problem, choices, tree, &mut buffer), Ok(()));
+    let nodes = tree.nodes.as_slice();
+    for place in 0..nodes.len() {
+        refuse_altered(rt, alloc, problem, choices, nodes, place)?;
+    }
+    Ok(())
+}
+
 #[test]
-fn the_first_list_of_least_cost_is_found(rt: HostRuntime) -> Result<(), Fail> {
+fn the_first_list_of_least_cost_is_found_and_its_tree_alone_passes(
+    rt: HostRuntime,
+) -> Result<(), Fail> {
     for seed in 0..300 {
         let problem = small(&rt, rt.alloc(), seed)?;
-        let (choices, _tree) = best(rt.alloc(), &problem)?;
+        let (choices, tree) = best(rt.alloc(), &problem)?;
         let (list, least) = plain_best(&problem);
         assert_eq!(rt; choices.as_slice(), list.as_slice());
         assert_eq!(rt; cost(&problem, choices.as_slice()), least);
+        compare_trees(&rt, rt.alloc(), &problem, choices.as_slice(), &tree)?;
     }
     Ok(())
 }

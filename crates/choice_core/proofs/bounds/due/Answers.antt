@@ -1,9 +1,9 @@
 use Rattle.std.proofs.Common.{◌≡◌, ℕ, Option, true, false, ap, sym, ◌∙◌, arith, length, cond}
 use Rattle.std.specs.List.{sum_by, filter}
 use Rattle.std.proofs.lemmas.List.{take_all}
-use Rattle.choice_core.specs.Problems.{touches}
-use Rattle.choice_core.specs.Bound.{next_from, is_at, further}
-use Rattle.choice_core.specs.Growing.{added}
+use Rattle.choice_core.specs.Problems.{touches, next_from, is_at}
+use Rattle.choice_core.specs.Bound.{further}
+use Rattle.choice_core.proofs.Growth.{added}
 use Rattle.choice_core.proofs.Limits.{due_le}
 use Rattle.choice_core.proofs.Loops.{at_is, sum_read}
 use Rattle.choice_core.proofs.Rises.{due_touching}
@@ -17,7 +17,7 @@ overflow_add-total c =
     let item = c.touching_fan-fan.result.now in
     let read = sum_read (λ f. added f c.args.prefix.now c.args.number c.args.sharing) fans c.loop-place.place item (omega (arith, c.touching_count-place-end.ensures, c.loop-place-test.true)) c.touching_fan-fan.ensures in
     let at : is_at (next_from (length c.args.prefix.now) item.to) c.args.number ≡ true =
-    ap (λ (o : Option ℕ). is_at o c.args.number) (sym c.next_from.ensures) ∙ sym (at_is c.next_from.result c.args.number) ∙ sym c.eq.ensures ∙ c.if-eq.true in
+    ap (λ (o : Option ℕ). is_at o c.args.number) (sym c.next_from.ensures.is) ∙ sym (at_is c.next_from.result c.args.number) ∙ sym c.eq.ensures ∙ c.if-eq.true in
     let here = ap (λ b. cond b (further item c.args.prefix.now c.args.sharing) 0) at in
     let whole = due_touching p.fans c.args.prefix.now c.args.number c.args.sharing in
     let limit = due_le p.fans c.args.prefix.now c.args.number c.args.sharing in
@@ -32,12 +32,12 @@ loop-place-preserved c =
     elim c.if-eq.branch [
       | then-eq w ↦ (
           let at : is_at (next_from (length c.args.prefix.now) item.to) c.args.number ≡ true =
-          ap (λ (o : Option ℕ). is_at o c.args.number) (sym c.next_from.ensures) ∙ is ∙ w.if-eq.true in
+          ap (λ (o : Option ℕ). is_at o c.args.number) (sym c.next_from.ensures.is) ∙ is ∙ w.if-eq.true in
           let here = ap (λ b. cond b (further item c.args.prefix.now c.args.sharing) 0) at in
           omega (arith, read.0, here, w.further-total.ensures, w.total-is, c.loop-place.invariant))
       | else-eq w ↦ (
           let at : is_at (next_from (length c.args.prefix.now) item.to) c.args.number ≡ false =
-          ap (λ (o : Option ℕ). is_at o c.args.number) (sym c.next_from.ensures) ∙ is ∙ w.if-eq.false in
+          ap (λ (o : Option ℕ). is_at o c.args.number) (sym c.next_from.ensures.is) ∙ is ∙ w.if-eq.false in
           let here = ap (λ b. cond b (further item c.args.prefix.now c.args.sharing) 0) at in
           omega (arith, read.0, here, w.total-is, c.loop-place.invariant))
     ]

@@ -1,7 +1,7 @@
 use Rattle.std.proofs.Common.{◌≡◌, take}
 use Rattle.std.specs.List.{sum_by, filter}
 use Rattle.choice_core.specs.Problems.{touches}
-use Rattle.choice_core.specs.Growing.{added}
+use Rattle.choice_core.proofs.Growth.{added}
 use Rattle.choice_core.proofs.bounds.due.Given as goal
 
 abbrev pub invariant-loop-place : goal.invariant-loop-place

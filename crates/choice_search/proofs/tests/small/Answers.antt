@@ -2,6 +2,7 @@ use Rattle.std.proofs.Common.{◌≡◌, ◌+◌, ◌*◌, length, ap, ◌∙◌
 use Rattle.std.proofs.lemmas.List.{length_push}
 use Rattle.std.proofs.lemmas.List.Elements.{All-push}
 use Rattle.std.proofs.lemmas.List.Sums.{sum_by_push}
+use Rattle.std.proofs.lemmas.Result.{IfOk-weaker}
 use Rattle.choice_core.specs.declared.problems.Fan.{Fan}
 use Rattle.choice_core.specs.Problems.{HasChoice, IsFan, greatest_own, greatest_price}
 use Rattle.choice_core.proofs.Parts.{problem_of_parts}
@@ -36,8 +37,8 @@ of-requires-clause-fans g c =
     let size : length c.loop.own.items ≡ 4 = omega (arith, own.0, end, c.loop.auto.counter-end) in
     rw (c.new.ensures, c.new-2.ensures, size) c.loop-from.invariant.0
 
-pub returns : goal.returns
-returns g c =
+pub returns-clause-problem : goal.returns-clause-problem
+returns-clause-problem g c =
     let own = c.loop.invariant in
     let fans = c.loop-from.invariant in
     let end = c.loop-test.false in
@@ -45,3 +46,10 @@ returns g c =
     let last = c.loop-from.auto.from-index-end in
     problem_of_parts c.of.result _ _ (rw c.new.ensures at c.of.ensures.own) (rw c.new-2.ensures at c.of.ensures.fans) c.of.ensures.touching
     own.1 (rw size fans.0) (omega (arith, own.2, fans.1, last, c.loop.auto.counter-end))
+
+pub returns-clause-count : goal.returns-clause-count
+returns-clause-count g c =
+    let own = c.loop.invariant in
+    let end = c.loop-test.false in
+    let size : length c.loop.own.items ≡ 4 = omega (arith, own.0, end, c.loop.auto.counter-end) in
+    IfOk-weaker c.of.result (λ p. p.own ≡ c.loop.own.items) (λ p. length p.own ≡ 4) (λ p is. rw is size) (rw c.new.ensures at c.of.ensures.own)

@@ -1,5 +1,5 @@
 use Rattle.std.proofs.Common.{◌≡◌, drop}
-use Rattle.choice_core.specs.Bound.{next_from}
+use Rattle.choice_core.specs.Problems.{next_from}
 use Rattle.choice_core.proofs.problems.Fan.next_from.Given as goal
 
 -- what is left of the consumers decides

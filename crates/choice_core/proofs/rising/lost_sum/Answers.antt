@@ -5,8 +5,8 @@ use Rattle.choice_core.specs.Problems.{touches}
 use Rattle.choice_core.specs.Growing.{lost}
 use Rattle.choice_core.proofs.Loops.{sum_read}
 use Rattle.choice_core.proofs.Growth.{touched_fan, lost_at}
-use Rattle.choice_core.proofs.growing.lost_sum.Goals as goal
-use Rattle.choice_core.proofs.growing.lost_sum.Goals.{then-fan-number, else-fan-number}
+use Rattle.choice_core.proofs.rising.lost_sum.Goals as goal
+use Rattle.choice_core.proofs.rising.lost_sum.Goals.{then-fan-number, else-fan-number}
 
 pub least_price-total-requires : goal.least_price-total-requires
 least_price-total-requires c =
