@@ -204,6 +204,21 @@ module _ {A C : Type 0} (L : Language A) (K : A → Language C) (most size : ℕ
       ap (λ u. after u g) (F.local_bad front w r other (is ∙ ap (λ u. reading.bad u) same))
   bind_local_bad_at front w r other (reading.deep r1) is h = absurd (cc)
 
+  bind_local_deep_at : (front : List Token) (w : Token) (r other : List Token) (answer : Answer A) → f (front ++ w ∷ r) ≡ answer → after answer g ≡ reading.deep (w ∷ r) → (f >>= g) (front ++ w ∷ other) ≡ reading.deep (w ∷ other)
+  bind_local_deep_at front w r other (reading.good a r1) is h =
+      let x = F.good (front ++ w ∷ r) a r1 is in
+      let y = (G a).deep r1 (w ∷ r) h in
+      let whole : front ++ w ∷ r ≡ x.front ++ (y.front ++ w ∷ r) = x.whole ∙ ap (λ u. x.front ++ u) y.whole in
+      let e : front ≡ x.front ++ y.front = append_cancel_right front (x.front ++ y.front) (w ∷ r) (whole ∙ sym (append_assoc x.front y.front (w ∷ r))) in
+      let f1 : f (x.front ++ (y.front ++ w ∷ r)) ≡ reading.good a (y.front ++ w ∷ r) = ap f (sym whole) ∙ is ∙ ap (λ u. reading.good a u) y.whole in
+      let g1 : g a (y.front ++ w ∷ r) ≡ reading.deep (w ∷ r) = ap (g a) (sym y.whole) ∙ h in
+      ap (f >>= g) (ap (λ u. u ++ w ∷ other) e ∙ append_assoc x.front y.front (w ∷ other))
+      ∙ ap (λ u. after u g) (local_through F x.front y.front w r other a f1) ∙ (G a).local_deep y.front w r other g1
+  bind_local_deep_at front w r other (reading.deep r1) is h =
+      let same : r1 ≡ w ∷ r = cc in
+      ap (λ u. after u g) (F.local_deep front w r other (is ∙ ap (λ u. reading.deep u) same))
+  bind_local_deep_at front w r other (reading.bad r1) is h = absurd (cc)
+
   -- a reader of a first tree and then of what follows it; each first tree has something that can follow it, and it stops there
   pub bind_reads : (some : (a : A) (ps : List Piece) → L a ps → (c : C) × ((qs : List Piece) × K a c qs))
       → (stops : (a : A) (c : C) (qs : List Piece) (ys rest : List Token) → K a c qs → Fits qs ys → Stops rest → StopsA (ys ++ rest))
@@ -215,4 +230,5 @@ module _ {A C : Type 0} (L : Language A) (K : A → Language C) (most size : ℕ
     all = bind_all stops;
     local_good = λ front w r other c h. bind_local_good_at front w r other c (f (front ++ w ∷ r)) refl h;
     local_bad = λ front w r other h. bind_local_bad_at front w r other (f (front ++ w ∷ r)) refl h;
+    local_deep = λ front w r other h. bind_local_deep_at front w r other (f (front ++ w ∷ r)) refl h;
   }

@@ -90,6 +90,12 @@ module _ {A : Type 0} (L M : Language A) (most size : ℕ) (Stops : List Token �
   choose_local_bad false front w r others is h =
       choose_if test f g false (front ++ w ∷ others) (sym (first_through test f g front w r others) ∙ is) ∙ G.local_bad front w r others (sym (choose_if test f g false (front ++ w ∷ r) is) ∙ h)
 
+  choose_local_deep : (b : Bool) (front : List Token) (w : Token) (r others : List Token) → first_test test (front ++ w ∷ r) ≡ b → choose test f g (front ++ w ∷ r) ≡ reading.deep (w ∷ r) → choose test f g (front ++ w ∷ others) ≡ reading.deep (w ∷ others)
+  choose_local_deep true front w r others is h =
+      choose_if test f g true (front ++ w ∷ others) (sym (first_through test f g front w r others) ∙ is) ∙ F.local_deep front w r others (sym (choose_if test f g true (front ++ w ∷ r) is) ∙ h)
+  choose_local_deep false front w r others is h =
+      choose_if test f g false (front ++ w ∷ others) (sym (first_through test f g front w r others) ∙ is) ∙ G.local_deep front w r others (sym (choose_if test f g false (front ++ w ∷ r) is) ∙ h)
+
   -- a reader of two languages whose trees can be told by their first token, which may be the one behind the tree
   pub choose_reads : ((a : A) (ps : List Piece) (front rest : List Token) → L a ps → Fits ps front → Stops rest → FirstIs test true (front ++ rest))
       → ((a : A) (ps : List Piece) (front rest : List Token) → M a ps → Fits ps front → Stops rest → FirstIs test false (front ++ rest))
@@ -101,4 +107,5 @@ module _ {A : Type 0} (L M : Language A) (most size : ℕ) (Stops : List Token �
     all = choose_all here there;
     local_good = λ front w r others tree h. choose_local_good (first_test test (front ++ w ∷ r)) front w r others refl tree h;
     local_bad = λ front w r others h. choose_local_bad (first_test test (front ++ w ∷ r)) front w r others refl h;
+    local_deep = λ front w r others h. choose_local_deep (first_test test (front ++ w ∷ r)) front w r others refl h;
   }

@@ -33,6 +33,7 @@ give_reads value most size Stops = record {
       let t : value ≡ tree = cc in
       ap (λ u. reading.good value (u ++ w ∷ other)) e ∙ ap (λ u. reading.good u (w ∷ other)) t;
   local_bad = λ front w r other h. absurd (cc);
+  local_deep = λ front w r other h. absurd (cc);
 }
 
 pub fits_length : (ps : List Piece) (ts : List Token) → Fits ps ts → length ps ≡ length ts
@@ -56,6 +57,7 @@ reads_as to from R = record {
   all = λ tree ps front rest is fits stop small. R.all tree ps front rest (from tree ps is) fits stop small;
   local_good = R.local_good;
   local_bad = R.local_bad;
+  local_deep = R.local_deep;
 }
 
 -- the same, where the second language is that of the first for no more pieces than there are tokens
@@ -68,6 +70,7 @@ reads_within {size = size} to from R = record {
   all = λ tree ps front rest is fits stop small. R.all tree ps front rest (from tree ps is (omega (arith, fits_length ps front fits, longer front rest, small))) fits stop small;
   local_good = R.local_good;
   local_bad = R.local_bad;
+  local_deep = R.local_deep;
 }
 
 -- a stop that asks for more
@@ -80,6 +83,7 @@ reads_where less R = record {
   all = λ tree ps front rest is fits stop small. R.all tree ps front rest is fits (less rest stop) small;
   local_good = R.local_good;
   local_bad = R.local_bad;
+  local_deep = R.local_deep;
 }
 
 same_found : {A : Type 0} (most : ℕ) (read other : Reader A) (tree : A) (ps : List Piece) (front rest : List Token) → read (front ++ rest) ≡ other (front ++ rest) → Found read most tree ps front rest → Found other most tree ps front rest
@@ -95,4 +99,5 @@ reads_same {most = most} {read = read} other same R = record {
   all = λ tree ps front rest is fits stop small. same_found most read other tree ps front rest (same (front ++ rest)) (R.all tree ps front rest is fits stop small);
   local_good = λ front w r others tree h. sym (same (front ++ w ∷ others)) ∙ R.local_good front w r others tree (same (front ++ w ∷ r) ∙ h);
   local_bad = λ front w r others h. sym (same (front ++ w ∷ others)) ∙ R.local_bad front w r others (same (front ++ w ∷ r) ∙ h);
+  local_deep = λ front w r others h. sym (same (front ++ w ∷ others)) ∙ R.local_deep front w r others (same (front ++ w ∷ r) ∙ h);
 }

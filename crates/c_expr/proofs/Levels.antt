@@ -120,6 +120,19 @@ module _ {A : Type 0} (L : Language A) (test : Token → Bool) (value : Token �
       let none : x ∷ front ≡ [] = append_cancel_right (x ∷ front) [] (w ∷ r) e in
       absurd (cc)
 
+  whole_deep : (b : Bool) (w : Token) (r rest : List Token) → taken b (value w) 0 w r ≡ reading.deep rest → (b ≡ true) × (w ∷ r ≡ rest)
+  unfolding taken
+  whole_deep true w r rest h = (refl, cc)
+  whole_deep false w r rest h = absurd (cc)
+
+  local_deep_of : (front : List Token) (w : Token) (r other : List Token) → take_as test value 0 (front ++ w ∷ r) ≡ reading.deep (w ∷ r) → take_as test value 0 (front ++ w ∷ other) ≡ reading.deep (w ∷ other)
+  unfolding take_as taken
+  local_deep_of [] w r other h = ap (λ b. taken b (value w) 0 w other) (whole_deep (test w) w r (w ∷ r) h).0
+  local_deep_of (x ∷ front) w r other h =
+      let e : x ∷ front ++ w ∷ r ≡ w ∷ r = (whole_deep (test x) x (front ++ w ∷ r) (w ∷ r) h).1 in
+      let none : x ∷ front ≡ [] = append_cancel_right (x ∷ front) [] (w ∷ r) e in
+      absurd (cc)
+
   pub refused_reads : Reads L most size Behind (take_as test value 0)
   unfolding Fits Shallow
   refused_reads = record {
@@ -129,6 +142,7 @@ module _ {A : Type 0} (L : Language A) (test : Token → Bool) (value : Token �
     all = λ tree ps front rest is fits stop small. found_deep tree ps front rest (leading tree ps is) fits;
     local_good = λ front w r other tree h. absurd (refused_good (front ++ w ∷ r) tree (w ∷ r) h);
     local_bad = local_bad_of;
+    local_deep = local_deep_of;
   }
 
 -- ---- expressions

@@ -12,16 +12,16 @@ use Rattle.c_expr.proofs.Reader.{Language, Shallow, Found, Reads}
 use Rattle.c_expr.proofs.Choosing.{FirstIs}
 use Rattle.c_expr.proofs.Levels.{all_read}
 
-deepest : List Piece → ℕ
+pub deepest : List Piece → ℕ
 deepest [] = 0
 deepest (piece ∷ pieces) = piece.nesting + deepest pieces
 
-shallow_more : (a b : ℕ) → a ≤ b → (pieces : List Piece) → Shallow a pieces → Shallow b pieces
+pub shallow_more : (a b : ℕ) → a ≤ b → (pieces : List Piece) → Shallow a pieces → Shallow b pieces
 unfolding Shallow
 shallow_more a b low [] s = tt
 shallow_more a b low (p ∷ ps) s = (omega (arith, low, s.0), shallow_more a b low ps s.1)
 
-all_shallow : (pieces : List Piece) → Shallow (deepest pieces) pieces
+pub all_shallow : (pieces : List Piece) → Shallow (deepest pieces) pieces
 unfolding Shallow deepest
 all_shallow [] = tt
 all_shallow (p ∷ ps) = (omega arith, shallow_more (deepest ps) (p.nesting + deepest ps) (omega arith) ps (all_shallow ps))
@@ -30,7 +30,7 @@ found_good : {A : Type 0} (read : Reader A) (most : ℕ) (tree : A) (ps : List P
 found_good read most tree ps tokens s (inl h) = h
 found_good read most tree ps tokens s (inr h) = absurd (h.1 s)
 
-one_of : {A : Type 0} {L : Language A} {most size : ℕ} {Behind : List Token → Type 0} {read : Reader A} → Reads L most size Behind read → Behind [] → (a b : A) (ps qs : List Piece) (tokens : List Token)
+pub one_of : {A : Type 0} {L : Language A} {most size : ℕ} {Behind : List Token → Type 0} {read : Reader A} → Reads L most size Behind read → Behind [] → (a b : A) (ps qs : List Piece) (tokens : List Token)
     → L a ps → L b qs → Fits ps tokens → Fits qs tokens → Shallow most ps → Shallow most qs → length (tokens ++ []) ≤ size → a ≡ b
 one_of {most = most} {read = read} R stop a b ps qs tokens left right fits_left fits_right s t small =
     let h = found_good read most a ps tokens s (R.all a ps tokens [] left fits_left stop small) in

@@ -69,4 +69,5 @@ pub record Reads {A : Type 0} (L : Language A) (most : ℕ) (size : ℕ) (Stops 
   pub deep : (tokens : List Token) (rest : List Token) → read tokens ≡ reading.deep rest → Deep L most tokens rest
   pub all : (tree : A) (pieces : List Piece) (front : List Token) (rest : List Token) → L tree pieces → Fits pieces front → Stops rest → length (front ++ rest) ≤ size → Found read most tree pieces front rest
   pub local_good : (front : List Token) (token : Token) (behind other : List Token) (tree : A) → read (front ++ token ∷ behind) ≡ reading.good tree (token ∷ behind) → read (front ++ token ∷ other) ≡ reading.good tree (token ∷ other)
+  pub local_deep : (front : List Token) (token : Token) (behind other : List Token) → read (front ++ token ∷ behind) ≡ reading.deep (token ∷ behind) → read (front ++ token ∷ other) ≡ reading.deep (token ∷ other)
   pub local_bad : (front : List Token) (token : Token) (behind other : List Token) → read (front ++ token ∷ behind) ≡ reading.bad (token ∷ behind) → read (front ++ token ∷ other) ≡ reading.bad (token ∷ other)

@@ -131,6 +131,26 @@ module _ {A : Type 0} (In : A → Type 0) (test : Token → Bool) (value : Token
       let none : x ∷ front ≡ [] = append_cancel_right (x ∷ front) [] (w ∷ r) e in
       absurd (cc)
 
+  taken_deep_is : (left : ℕ) (b : Bool) (w : Token) (r rest : List Token) → taken b (value w) left w r ≡ reading.deep rest → w ∷ r ≡ rest
+  unfolding taken
+  taken_deep_is left false w r rest h = absurd (cc)
+  taken_deep_is zero true w r rest h = cc
+  taken_deep_is (suc left) true w r rest h = absurd (cc)
+
+  taken_deep_through : (left : ℕ) (b : Bool) (w : Token) (r rest other : List Token) → taken b (value w) left w r ≡ reading.deep rest → taken b (value w) left w other ≡ reading.deep (w ∷ other)
+  unfolding taken
+  taken_deep_through left false w r rest other h = absurd (cc)
+  taken_deep_through zero true w r rest other h = refl
+  taken_deep_through (suc left) true w r rest other h = absurd (cc)
+
+  take_local_deep : (left : ℕ) (front : List Token) (w : Token) (r other : List Token) → take_as test value left (front ++ w ∷ r) ≡ reading.deep (w ∷ r) → take_as test value left (front ++ w ∷ other) ≡ reading.deep (w ∷ other)
+  unfolding take_as
+  take_local_deep left [] w r other h = taken_deep_through left (test w) w r (w ∷ r) other h
+  take_local_deep left (x ∷ front) w r other h =
+      let e : x ∷ front ++ w ∷ r ≡ w ∷ r = taken_deep_is left (test x) x (front ++ w ∷ r) (w ∷ r) h in
+      let none : x ∷ front ≡ [] = append_cancel_right (x ∷ front) [] (w ∷ r) e in
+      absurd (cc)
+
   -- a reader of one token of some, which has the language of the values' pieces, nested so deeply that one level more than is left is too deep
   pub take_in_reads : (left : ℕ) → ((a : A) → (piece a).nesting + left ≡ most + 1) → (Stops : List Token → Type 0) → Reads (SingleIn In piece) most size Stops (take_as test value left)
   take_in_reads left level Stops = record {
@@ -140,6 +160,7 @@ module _ {A : Type 0} (In : A → Type 0) (test : Token → Bool) (value : Token
     all = λ tree ps front rest one fits stop small. take_all left level tree ps front rest one.within one.one fits;
     local_good = take_local_good left;
     local_bad = take_local_bad left;
+    local_deep = take_local_deep left;
   }
 
 -- the same where each value has its token

@@ -1,0 +1,17 @@
+pub mod Baring
+pub mod Branching
+pub mod Callable
+pub mod Declaring
+pub mod Ending
+pub mod Following
+pub mod Initial
+pub mod Initialising
+pub mod Marking
+pub mod Marks
+pub mod Objects
+pub mod Oneness
+pub mod Parameters
+pub mod Pointing
+pub mod Refusing
+pub mod Simple
+pub mod Sizing

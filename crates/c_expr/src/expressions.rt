@@ -1,0 +1,333 @@
+//! The rules of expressions (C11 6.5), by the first token at each place.
+
+ghost use Rattle.std.specs.Prelude.{◌≡◌, ◌≤◌, ◌-◌, codes, IfOk};
+ghost use Rattle.c_expr.specs.Expressions as spec;
+ghost use Rattle.c_expr.specs.Levels.{readers_at};
+ghost use Rattle.c_expr.specs.Nested.{AreNested};
+ghost use Rattle.c_expr.specs.Outcome.{Gives};
+ghost use Rattle.c_expr.specs.Reading as reading;
+ghost use Rattle.c_expr.specs.Tokens as tokens;
+
+use crate::cursor::Cursor;
+use crate::grammar::Grammar;
+use crate::lists::{many, separated_by};
+use crate::tables::is_suffix;
+use crate::unread::Unread;
+use c_tree::{Expr, Named, Operand, Place, Specs, Suffix, TokenKind};
+use hy_bits::Memory;
+use sqlite_items::{Boxed, Items};
+use std::alloc::Global;
+
+/// A primary expression with what stands behind it, or alone if nothing does.
+fn postfixed(alloc: Global, primary: Expr, suffixes: Items<Suffix>) -> Result<Expr, Memory>
+    ensures { IfOk result (λ e. e ≡ spec.postfixed primary suffixes) }
+{
+    if suffixes.is_empty() {
+        return Ok(primary);
+    }
+    Ok(Expr::Postfix(Boxed::new(alloc, primary)?, suffixes))
+}
+
+/// An operand with those behind it, or alone if there are none.
+fn chained(alloc: Global, first: Expr, rest: Items<Operand>) -> Result<Expr, Memory>
+    ensures { IfOk result (λ e. e ≡ spec.chained first rest) }
+{
+    if rest.is_empty() {
+        return Ok(first);
+    }
+    Ok(Expr::Chain(Boxed::new(alloc, first)?, rest))
+}
+
+impl<
+    U: Fn(Global, &mut Cursor<'_>, usize, u32) -> Result<Expr, Unread>,
+    E: Fn(Global, &mut Cursor<'_>, usize, u32) -> Result<Expr, Unread>,
+    S: Fn(Global, &mut Cursor<'_>, usize, u32) -> Result<Specs, Unread>,
+> Grammar<U, E, S> {
+    /// `expr ("," expr)*`
+    fn some_arguments(&self, cursor: &mut Cursor<'_>) -> Result<Items<Expr>, Unread>
+        requires { AreNested self.now.size self.now.left (U.pre self.now.unary) (U.post self.now.unary) (E.pre self.now.expr) (E.post self.now.expr) (S.pre self.now.specs) (S.post self.now.specs) }
+        ensures { Gives (spec.separated_by self.now.size (codes ",") (self.now.left - 1) (readers_at self.now.size (self.now.left - 1)).expr cursor.old) result cursor.new }
+    {
+        separated_by(
+            self.alloc,
+            cursor,
+            self.size,
+            self.left - 1,
+            ",",
+            |cursor| self.nested_expr(cursor),
+        )
+    }
+
+    /// The arguments of a call: `[expr ("," expr)*]`
+    #[tactic(auto, using(crate::proofs::Gathering::choose_sees, crate::proofs::Depths::left_of), unfolding(crate::specs::Expressions::read_arguments))]
+    fn arguments(&self, cursor: &mut Cursor<'_>) -> Result<Items<Expr>, Unread>
+        requires { AreNested self.now.size self.now.left (U.pre self.now.unary) (U.post self.now.unary) (E.pre self.now.expr) (E.post self.now.expr) (S.pre self.now.specs) (S.post self.now.specs) }
+        ensures { Gives (spec.read_arguments self.now.size (readers_at self.now.size (self.now.left - 1)) cursor.old) result cursor.new }
+    {
+        if cursor.sees_mark(")") {
+            Ok(Items::new(self.alloc))
+        } else {
+            self.some_arguments(cursor)
+        }
+    }
+
+    /// `NAME "(" arguments ")"`, behind the name.
+    #[tactic(auto, unfolding(crate::specs::Expressions::read_call))]
+    fn call(&self, cursor: &mut Cursor<'_>, name: Named) -> Result<Expr, Unread>
+        requires { AreNested self.now.size self.now.left (U.pre self.now.unary) (U.post self.now.unary) (E.pre self.now.expr) (E.post self.now.expr) (S.pre self.now.specs) (S.post self.now.specs) }
+        ensures { Gives (spec.read_call self.now.size self.now.left (readers_at self.now.size (self.now.left - 1)) name cursor.old) result cursor.new }
+    {
+        let place = cursor.mark_at("(", self.left)?;
+        let arguments = self.arguments(cursor)?;
+        cursor.mark(")", self.left)?;
+        Ok(Expr::Call(name, place, arguments))
+    }
+
+    /// A name or a call.
+    #[tactic(auto, using(crate::proofs::Gathering::choose_sees), unfolding(crate::specs::Expressions::read_named))]
+    fn named(&self, cursor: &mut Cursor<'_>) -> Result<Expr, Unread>
+        requires { AreNested self.now.size self.now.left (U.pre self.now.unary) (U.post self.now.unary) (E.pre self.now.expr) (E.post self.now.expr) (S.pre self.now.specs) (S.post self.now.specs) }
+        ensures { Gives (spec.read_named self.now.size self.now.left (readers_at self.now.size (self.now.left - 1)) cursor.old) result cursor.new }
+    {
+        let name = cursor.name(self.alloc, self.left)?;
+        if cursor.sees_mark("(") {
+            self.call(cursor, name)
+        } else {
+            Ok(Expr::Name(name))
+        }
+    }
+
+    /// A literal.
+    #[tactic(auto, unfolding(crate::specs::Expressions::read_literal))]
+    fn literal(&self, cursor: &mut Cursor<'_>) -> Result<Expr, Unread>
+        ensures { Gives (spec.read_literal self.now.left cursor.old) result cursor.new }
+    {
+        let (place, value) = cursor.literal_at(self.left)?;
+        Ok(Expr::Literal(place, value))
+    }
+
+    /// `"[" expr "]"`
+    #[tactic(auto, unfolding(crate::specs::Expressions::read_index))]
+    fn index(&self, cursor: &mut Cursor<'_>) -> Result<Suffix, Unread>
+        requires { AreNested self.now.size self.now.left (U.pre self.now.unary) (U.post self.now.unary) (E.pre self.now.expr) (E.post self.now.expr) (S.pre self.now.specs) (S.post self.now.specs) }
+        ensures { Gives (spec.read_index self.now.left (readers_at self.now.size (self.now.left - 1)) cursor.old) result cursor.new }
+    {
+        let place = cursor.mark_at("[", self.left)?;
+        let index = self.nested_expr(cursor)?;
+        cursor.mark("]", self.left)?;
+        Ok(Suffix::Index(place, index))
+    }
+
+    /// `"." NAME`
+    #[tactic(auto, unfolding(crate::specs::Expressions::read_member))]
+    fn member(&self, cursor: &mut Cursor<'_>) -> Result<Suffix, Unread>
+        ensures { Gives (spec.read_member self.now.left cursor.old) result cursor.new }
+    {
+        let place = cursor.mark_at(".", self.left)?;
+        let name = cursor.name(self.alloc, self.left)?;
+        Ok(Suffix::Member(place, name))
+    }
+
+    /// `"->" NAME`
+    #[tactic(auto, unfolding(crate::specs::Expressions::read_arrow))]
+    fn arrow(&self, cursor: &mut Cursor<'_>) -> Result<Suffix, Unread>
+        ensures { Gives (spec.read_arrow self.now.left cursor.old) result cursor.new }
+    {
+        let place = cursor.mark_at("->", self.left)?;
+        let name = cursor.name(self.alloc, self.left)?;
+        Ok(Suffix::Arrow(place, name))
+    }
+
+    /// An index or a member.
+    #[tactic(auto, using(crate::proofs::Gathering::choose_sees), unfolding(crate::specs::Expressions::read_suffix))]
+    fn suffix(&self, cursor: &mut Cursor<'_>) -> Result<Suffix, Unread>
+        requires { AreNested self.now.size self.now.left (U.pre self.now.unary) (U.post self.now.unary) (E.pre self.now.expr) (E.post self.now.expr) (S.pre self.now.specs) (S.post self.now.specs) }
+        ensures { Gives (spec.read_suffix self.now.left (readers_at self.now.size (self.now.left - 1)) cursor.old) result cursor.new }
+    {
+        if cursor.sees_mark("[") {
+            self.index(cursor)
+        } else if cursor.sees_mark(".") {
+            self.member(cursor)
+        } else {
+            self.arrow(cursor)
+        }
+    }
+
+    /// Indices and members.
+    fn suffixes(&self, cursor: &mut Cursor<'_>) -> Result<Items<Suffix>, Unread>
+        requires { AreNested self.now.size self.now.left (U.pre self.now.unary) (U.post self.now.unary) (E.pre self.now.expr) (E.post self.now.expr) (S.pre self.now.specs) (S.post self.now.specs) }
+        ensures { Gives (reading.many self.now.size tokens.is_suffix (spec.read_suffix self.now.left (readers_at self.now.size (self.now.left - 1))) cursor.old) result cursor.new }
+    {
+        many(
+            self.alloc,
+            cursor,
+            self.size,
+            |token| is_suffix(token),
+            |cursor| self.suffix(cursor),
+        )
+    }
+
+    /// What stands behind a primary expression.
+    #[tactic(auto, unfolding(crate::specs::Expressions::read_behind))]
+    fn behind(&self, cursor: &mut Cursor<'_>, primary: Expr) -> Result<Expr, Unread>
+        requires { AreNested self.now.size self.now.left (U.pre self.now.unary) (U.post self.now.unary) (E.pre self.now.expr) (E.post self.now.expr) (S.pre self.now.specs) (S.post self.now.specs) }
+        ensures { Gives (spec.read_behind self.now.size self.now.left (readers_at self.now.size (self.now.left - 1)) primary cursor.old) result cursor.new }
+    {
+        let suffixes = self.suffixes(cursor)?;
+        Ok(postfixed(self.alloc, primary, suffixes)?)
+    }
+
+    /// A name, a call or a literal.
+    #[tactic(auto, using(crate::proofs::Gathering::choose_sees))]
+    fn name_or_literal(&self, cursor: &mut Cursor<'_>) -> Result<Expr, Unread>
+        requires { AreNested self.now.size self.now.left (U.pre self.now.unary) (U.post self.now.unary) (E.pre self.now.expr) (E.post self.now.expr) (S.pre self.now.specs) (S.post self.now.specs) }
+        ensures { Gives (reading.choose (tokens.is_kind TokenKind.Name) (spec.read_named self.now.size self.now.left (readers_at self.now.size (self.now.left - 1))) (spec.read_literal self.now.left) cursor.old) result cursor.new }
+    {
+        if cursor.sees_kind(TokenKind::Name) {
+            self.named(cursor)
+        } else {
+            self.literal(cursor)
+        }
+    }
+
+    /// A name, a call or a literal, and what stands behind it.
+    #[tactic(auto, unfolding(crate::specs::Expressions::read_primary))]
+    fn primary(&self, cursor: &mut Cursor<'_>) -> Result<Expr, Unread>
+        requires { AreNested self.now.size self.now.left (U.pre self.now.unary) (U.post self.now.unary) (E.pre self.now.expr) (E.post self.now.expr) (S.pre self.now.specs) (S.post self.now.specs) }
+        ensures { Gives (spec.read_primary self.now.size self.now.left (readers_at self.now.size (self.now.left - 1)) cursor.old) result cursor.new }
+    {
+        let primary = self.name_or_literal(cursor)?;
+        self.behind(cursor, primary)
+    }
+
+    /// `"(" specs ")" unary`, behind the opening bracket.
+    #[tactic(auto, unfolding(crate::specs::Expressions::read_cast))]
+    fn cast(&self, cursor: &mut Cursor<'_>, place: Place) -> Result<Expr, Unread>
+        requires { AreNested self.now.size self.now.left (U.pre self.now.unary) (U.post self.now.unary) (E.pre self.now.expr) (E.post self.now.expr) (S.pre self.now.specs) (S.post self.now.specs) }
+        ensures { Gives (spec.read_cast self.now.left (readers_at self.now.size (self.now.left - 1)) place cursor.old) result cursor.new }
+    {
+        let specs = self.nested_specs(cursor)?;
+        cursor.mark(")", self.left)?;
+        let operand = self.nested_unary(cursor)?;
+        Ok(Expr::Cast(
+            place,
+            Boxed::new(self.alloc, specs)?,
+            Boxed::new(self.alloc, operand)?,
+        ))
+    }
+
+    /// `"(" expr ")"`, behind the opening bracket.
+    #[tactic(auto, unfolding(crate::specs::Expressions::read_group))]
+    fn group(&self, cursor: &mut Cursor<'_>, place: Place) -> Result<Expr, Unread>
+        requires { AreNested self.now.size self.now.left (U.pre self.now.unary) (U.post self.now.unary) (E.pre self.now.expr) (E.post self.now.expr) (S.pre self.now.specs) (S.post self.now.specs) }
+        ensures { Gives (spec.read_group self.now.left (readers_at self.now.size (self.now.left - 1)) place cursor.old) result cursor.new }
+    {
+        let value = self.nested_expr(cursor)?;
+        cursor.mark(")", self.left)?;
+        Ok(Expr::Group(place, Boxed::new(self.alloc, value)?))
+    }
+
+    /// A cast, or an expression in brackets and what stands behind it.
+    #[tactic(auto, using(crate::proofs::Gathering::choose_sees), unfolding(crate::specs::Expressions::read_bracketed))]
+    fn bracketed(&self, cursor: &mut Cursor<'_>) -> Result<Expr, Unread>
+        requires { AreNested self.now.size self.now.left (U.pre self.now.unary) (U.post self.now.unary) (E.pre self.now.expr) (E.post self.now.expr) (S.pre self.now.specs) (S.post self.now.specs) }
+        ensures { Gives (spec.read_bracketed self.now.size self.now.left (readers_at self.now.size (self.now.left - 1)) cursor.old) result cursor.new }
+    {
+        let place = cursor.mark_at("(", self.left)?;
+        if cursor.sees_type() {
+            return self.cast(cursor, place);
+        }
+        let group = self.group(cursor, place)?;
+        self.behind(cursor, group)
+    }
+
+    /// `prefix unary`
+    #[tactic(auto, unfolding(crate::specs::Expressions::read_prefixed))]
+    fn prefixed(&self, cursor: &mut Cursor<'_>) -> Result<Expr, Unread>
+        requires { AreNested self.now.size self.now.left (U.pre self.now.unary) (U.post self.now.unary) (E.pre self.now.expr) (E.post self.now.expr) (S.pre self.now.specs) (S.post self.now.specs) }
+        ensures { Gives (spec.read_prefixed self.now.left (readers_at self.now.size (self.now.left - 1)) cursor.old) result cursor.new }
+    {
+        let (place, operator) = cursor.prefix_at(self.left)?;
+        let operand = self.nested_unary(cursor)?;
+        Ok(Expr::Prefix(place, operator, Boxed::new(self.alloc, operand)?))
+    }
+
+    /// A unary expression.
+    #[tactic(auto, using(crate::proofs::Gathering::choose_sees), unfolding(crate::specs::Expressions::read_unary))]
+    pub fn unary(&self, cursor: &mut Cursor<'_>) -> Result<Expr, Unread>
+        requires { AreNested self.now.size self.now.left (U.pre self.now.unary) (U.post self.now.unary) (E.pre self.now.expr) (E.post self.now.expr) (S.pre self.now.specs) (S.post self.now.specs) }
+        ensures { Gives (spec.read_unary self.now.size self.now.left (readers_at self.now.size (self.now.left - 1)) cursor.old) result cursor.new }
+    {
+        if cursor.sees_prefix() {
+            self.prefixed(cursor)
+        } else if cursor.sees_mark("(") {
+            self.bracketed(cursor)
+        } else {
+            self.primary(cursor)
+        }
+    }
+
+    /// `"?" expr ":" expr`, behind the condition.
+    #[tactic(auto, unfolding(crate::specs::Expressions::read_choice))]
+    fn choice(&self, cursor: &mut Cursor<'_>, condition: Expr) -> Result<Expr, Unread>
+        requires { AreNested self.now.size self.now.left (U.pre self.now.unary) (U.post self.now.unary) (E.pre self.now.expr) (E.post self.now.expr) (S.pre self.now.specs) (S.post self.now.specs) }
+        ensures { Gives (spec.read_choice self.now.left (readers_at self.now.size (self.now.left - 1)) condition cursor.old) result cursor.new }
+    {
+        let place = cursor.mark_at("?", self.left)?;
+        let second = self.nested_expr(cursor)?;
+        cursor.mark(":", self.left)?;
+        let third = self.nested_expr(cursor)?;
+        Ok(Expr::Conditional(
+            Boxed::new(self.alloc, condition)?,
+            place,
+            Boxed::new(self.alloc, second)?,
+            Boxed::new(self.alloc, third)?,
+        ))
+    }
+}
+
+impl<
+    U: Fn(Global, &mut Cursor<'_>, usize, u32) -> Result<Expr, Unread>,
+    E: Fn(Global, &mut Cursor<'_>, usize, u32) -> Result<Expr, Unread>,
+    S: Fn(Global, &mut Cursor<'_>, usize, u32) -> Result<Specs, Unread>,
+> Grammar<U, E, S> {
+    /// The chains of so many levels above the unary expressions.
+    pub fn chain(&self, cursor: &mut Cursor<'_>, above: u8) -> Result<Expr, Unread>
+        requires levels { above ≤ 10 }
+        requires nested { AreNested self.now.size self.now.left (U.pre self.now.unary) (U.post self.now.unary) (E.pre self.now.expr) (E.post self.now.expr) (S.pre self.now.specs) (S.post self.now.specs) }
+        ensures { Gives (spec.read_chain above self.now.size self.now.left (readers_at self.now.size (self.now.left - 1)) cursor.old) result cursor.new }
+    {
+        if above == 0 {
+            return self.unary(cursor);
+        }
+        let first = self.chain(cursor, above - 1)?;
+        let mut rest = Items::new(self.alloc);
+        for _turn in 0..self.size {
+            if !cursor.sees_operator(11 - above) {
+                break;
+            }
+            let (place, operator) = cursor.operator_at(11 - above, self.left)?;
+            let value = self.chain(cursor, above - 1)?;
+            rest.push(Operand {
+                place,
+                operator,
+                value,
+            })?;
+        }
+        Ok(chained(self.alloc, first, rest)?)
+    }
+
+    /// An expression.
+    #[tactic(auto, using(crate::proofs::Gathering::choose_sees), unfolding(crate::specs::Expressions::read_expr))]
+    pub fn expr(&self, cursor: &mut Cursor<'_>) -> Result<Expr, Unread>
+        requires { AreNested self.now.size self.now.left (U.pre self.now.unary) (U.post self.now.unary) (E.pre self.now.expr) (E.post self.now.expr) (S.pre self.now.specs) (S.post self.now.specs) }
+        ensures { Gives (spec.read_expr self.now.size self.now.left (readers_at self.now.size (self.now.left - 1)) cursor.old) result cursor.new }
+    {
+        let condition = self.chain(cursor, 10)?;
+        if cursor.sees_mark("?") {
+            self.choice(cursor, condition)
+        } else {
+            Ok(condition)
+        }
+    }
+}

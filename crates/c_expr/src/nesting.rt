@@ -1,0 +1,111 @@
+//! The readers where so many levels of nesting are left, in lists of at most so many tokens. What is nested is read by
+//! them with one level less.
+
+ghost use Rattle.std.specs.Prelude.{◌<◌, ◌-◌};
+ghost use Rattle.c_expr.specs.Levels.{readers_at};
+ghost use Rattle.c_expr.specs.Outcome.{Gives};
+ghost use Rattle.c_expr.specs.Types as types;
+
+use crate::cursor::Cursor;
+use crate::grammar::Grammar;
+use crate::sizes::Sizes;
+use crate::unread::Unread;
+use c_tree::{Dimension, Expr, Specs, Tag};
+use sqlite_items::Items;
+use std::alloc::Global;
+
+/// A unary expression.
+#[cycle(levels)]
+pub fn unary(alloc: Global, cursor: &mut Cursor<'_>, size: usize, left: u32) -> Result<Expr, Unread>
+    ensures { Gives ((readers_at size left).unary cursor.old) result cursor.new }
+{
+    if left == 0 {
+        return Err(cursor.no_expr());
+    }
+    let grammar = Grammar {
+        alloc,
+        size,
+        left,
+        unary,
+        expr,
+        specs,
+    };
+    grammar.unary(cursor)
+}
+
+/// An expression.
+#[cycle(levels)]
+pub fn expr(alloc: Global, cursor: &mut Cursor<'_>, size: usize, left: u32) -> Result<Expr, Unread>
+    ensures { Gives ((readers_at size left).expr cursor.old) result cursor.new }
+{
+    if left == 0 {
+        return Err(cursor.no_expr());
+    }
+    let grammar = Grammar {
+        alloc,
+        size,
+        left,
+        unary,
+        expr,
+        specs,
+    };
+    grammar.expr(cursor)
+}
+
+/// A type's spelling.
+#[cycle(levels)]
+pub fn specs(
+    alloc: Global,
+    cursor: &mut Cursor<'_>,
+    size: usize,
+    left: u32,
+) -> Result<Specs, Unread>
+    ensures { Gives ((readers_at size left).specs cursor.old) result cursor.new }
+{
+    if left == 0 {
+        return Err(cursor.no_specs());
+    }
+    let grammar = Grammar {
+        alloc,
+        size,
+        left,
+        unary,
+        expr,
+        specs,
+    };
+    grammar.specs(cursor)
+}
+
+/// The dimensions of a declared name.
+pub fn dimensions(
+    alloc: Global,
+    cursor: &mut Cursor<'_>,
+    size: usize,
+    left: u32,
+) -> Result<Items<Dimension>, Unread>
+    ensures { Gives (types.read_dimensions size left (readers_at size left).expr cursor.old) result cursor.new }
+{
+    let sizes = Sizes {
+        alloc,
+        size,
+        left,
+        expr,
+    };
+    sizes.dimensions(cursor)
+}
+
+/// A struct or an enum.
+pub fn tag(alloc: Global, cursor: &mut Cursor<'_>, size: usize, left: u32) -> Result<Tag, Unread>
+    requires { 0 < left }
+    ensures { Gives (types.read_tag size left (readers_at size (left - 1)) (readers_at size left).expr cursor.old) result cursor.new }
+{
+    let grammar = Grammar {
+        alloc,
+        size,
+        left,
+        unary,
+        expr,
+        specs,
+    };
+    grammar.tag(cursor)
+}

@@ -1,0 +1,253 @@
+ghost use Rattle.std.specs.Prelude.{◌≡◌, if◌then◌else◌, map};
+ghost use Rattle.c_tree.specs.Operators as operators;
+ghost use Rattle.c_expr.specs.Tokens as spec;
+ghost use Rattle.c_expr.specs.Types as types;
+
+use c_tree::{Literal, Operator, Prefix, Token, TokenKind, TypeWord};
+
+/// Whether a token is of this kind.
+#[tactic(auto, unfolding(crate::specs::Tokens::is_kind))]
+pub fn is_kind(kind: TokenKind, token: &Token) -> bool
+    ensures { result ≡ spec.is_kind kind token.now }
+{
+    token.kind == kind
+}
+
+/// Whether a token is of this kind and spelled so.
+#[tactic(auto, unfolding(crate::specs::Tokens::is_spelled))]
+fn is_spelled(kind: TokenKind, text: &str, token: &Token) -> bool
+    ensures { result ≡ spec.is_spelled kind text.now token.now }
+{
+    is_kind(kind, token) && token.text.is(text.as_bytes())
+}
+
+/// Whether a token is this mark.
+pub fn is_mark(text: &str, token: &Token) -> bool
+    ensures { result ≡ spec.is_mark text.now token.now }
+{
+    is_spelled(TokenKind::Mark, text, token)
+}
+
+/// Whether a token is this reserved word.
+pub fn is_word(text: &str, token: &Token) -> bool
+    ensures { result ≡ spec.is_word text.now token.now }
+{
+    is_spelled(TokenKind::Word, text, token)
+}
+
+/// What a table has for a text: the first entry that is spelled so.
+#[tactic(auto, unfolding(crate::specs::Tokens::found_in))]
+fn found_in<T: Copy>(entries: &[(&str, T)], text: &[u8]) -> Option<T>
+    ensures { result ≡ spec.found_in (map (λ e. (e.0.now, e.1)) entries.now) text.now }
+{
+    for (spelling, value) in entries {
+        if text == spelling.as_bytes() {
+            return Some(*value);
+        }
+    }
+    None
+}
+
+/// What a table has for the text of a token of a kind.
+#[tactic(auto, unfolding(crate::specs::Tokens::found_of))]
+pub fn found_of<T: Copy>(kind: TokenKind, entries: &[(&str, T)], token: &Token) -> Option<T>
+    ensures { result ≡ spec.found_of kind (map (λ e. (e.0.now, e.1)) entries.now) token.now }
+{
+    if is_kind(kind, token) {
+        found_in(entries, token.text.as_bytes())
+    } else {
+        None
+    }
+}
+
+/// The operators in front of their operands.
+const PREFIXES: [(&str, Prefix); 6] = [
+    ("+", Prefix::Plus),
+    ("-", Prefix::Minus),
+    ("~", Prefix::Complement),
+    ("!", Prefix::Not),
+    ("*", Prefix::Target),
+    ("&", Prefix::Address),
+];
+
+/// The operator in front of an operand that a token is, if it is one.
+#[tactic(auto, unfolding(crate::specs::Tokens::prefix_of))]
+pub fn prefix_of(token: &Token) -> Option<Prefix>
+    ensures { result ≡ spec.prefix_of token.now }
+{
+    found_of(TokenKind::Mark, PREFIXES.as_slice(), token)
+}
+
+/// The operators between two operands.
+const OPERATORS: [(&str, Operator); 18] = [
+    ("||", Operator::OrElse),
+    ("&&", Operator::AndThen),
+    ("|", Operator::Or),
+    ("^", Operator::Xor),
+    ("&", Operator::And),
+    ("==", Operator::Equal),
+    ("!=", Operator::Unequal),
+    ("<", Operator::Less),
+    (">", Operator::Greater),
+    ("<=", Operator::LessOrEqual),
+    (">=", Operator::GreaterOrEqual),
+    ("<<", Operator::ShiftLeft),
+    (">>", Operator::ShiftRight),
+    ("+", Operator::Add),
+    ("-", Operator::Subtract),
+    ("*", Operator::Multiply),
+    ("/", Operator::Divide),
+    ("%", Operator::Remainder),
+];
+
+/// The operator between two operands that a token is, if it is one.
+#[tactic(auto, unfolding(crate::specs::Tokens::operator_of))]
+pub fn operator_of(token: &Token) -> Option<Operator>
+    ensures { result ≡ spec.operator_of token.now }
+{
+    found_of(TokenKind::Mark, OPERATORS.as_slice(), token)
+}
+
+/// The words that spell types.
+const TYPE_WORDS: [(&str, TypeWord); 17] = [
+    ("void", TypeWord::Void),
+    ("_Bool", TypeWord::Underscored),
+    ("bool", TypeWord::Bool),
+    ("char", TypeWord::Char),
+    ("signed", TypeWord::Signed),
+    ("unsigned", TypeWord::Unsigned),
+    ("short", TypeWord::Short),
+    ("int", TypeWord::Int),
+    ("long", TypeWord::Long),
+    ("int8_t", TypeWord::Int8),
+    ("int16_t", TypeWord::Int16),
+    ("int32_t", TypeWord::Int32),
+    ("int64_t", TypeWord::Int64),
+    ("uint8_t", TypeWord::Uint8),
+    ("uint16_t", TypeWord::Uint16),
+    ("uint32_t", TypeWord::Uint32),
+    ("uint64_t", TypeWord::Uint64),
+];
+
+/// The word of a type's spelling that a token is, if it is one.
+#[tactic(auto, unfolding(crate::specs::Tokens::type_word_of))]
+pub fn type_word_of(token: &Token) -> Option<TypeWord>
+    ensures { result ≡ spec.type_word_of token.now }
+{
+    found_of(TokenKind::Word, TYPE_WORDS.as_slice(), token)
+}
+
+/// The words that are literals.
+const LITERAL_WORDS: [(&str, Literal); 2] = [("true", Literal::True), ("false", Literal::False)];
+
+/// The literal that a token is, if it is one.
+#[tactic(auto, unfolding(crate::specs::Tokens::literal_by))]
+pub fn literal_of(token: &Token) -> Option<Literal>
+    ensures { result ≡ spec.literal_of token.now }
+{
+    match token.kind {
+        TokenKind::Word => found_in(LITERAL_WORDS.as_slice(), token.text.as_bytes()),
+        TokenKind::Integer => Some(Literal::Integer(token.scalar, token.number)),
+        TokenKind::Character => Some(Literal::Character(token.scalar, token.number)),
+        _ => None,
+    }
+}
+
+/// How strongly an operator binds, from 1 for `||` to 10 for `*` (C11 6.5.5 to 6.5.14).
+pub fn level_of(operator: Operator) -> u8
+    ensures { result ≡ operators.level_of operator }
+{
+    match operator {
+        Operator::OrElse => 1,
+        Operator::AndThen => 2,
+        Operator::Or => 3,
+        Operator::Xor => 4,
+        Operator::And => 5,
+        Operator::Equal | Operator::Unequal => 6,
+        Operator::Less | Operator::Greater | Operator::LessOrEqual | Operator::GreaterOrEqual => 7,
+        Operator::ShiftLeft | Operator::ShiftRight => 8,
+        Operator::Add | Operator::Subtract => 9,
+        Operator::Multiply | Operator::Divide | Operator::Remainder => 10,
+    }
+}
+
+/// The operator of this level between two operands that a token is, if it is one.
+pub fn operator_of_level(level: u8, token: &Token) -> Option<Operator>
+    ensures { result ≡ (if spec.is_operator level token.now then spec.operator_of token.now else None) }
+{
+    match operator_of(token) {
+        Some(operator) if level_of(operator) == level => Some(operator),
+        _ => None,
+    }
+}
+
+/// Whether a token is an operator of this level between two operands.
+pub fn is_operator(level: u8, token: &Token) -> bool
+    ensures { result ≡ spec.is_operator level token.now }
+{
+    match operator_of(token) {
+        Some(operator) => level_of(operator) == level,
+        None => false,
+    }
+}
+
+/// Whether a token is an operator in front of an operand.
+pub fn is_prefix(token: &Token) -> bool
+    ensures { result ≡ spec.is_prefix token.now }
+{
+    prefix_of(token).is_some()
+}
+
+/// Whether a token is a literal.
+pub fn is_literal(token: &Token) -> bool
+    ensures { result ≡ spec.is_literal token.now }
+{
+    literal_of(token).is_some()
+}
+
+/// Whether a token is a word of a type's spelling.
+pub fn is_type_word(token: &Token) -> bool
+    ensures { result ≡ spec.is_type_word token.now }
+{
+    type_word_of(token).is_some()
+}
+
+/// Whether an index or a member begins with this token.
+#[tactic(auto, unfolding(crate::specs::Tokens::suffix_by, crate::specs::Tokens::spelled_by, crate::specs::Tokens::is_spelled, crate::specs::Tokens::is_kind))]
+pub fn is_suffix(token: &Token) -> bool
+    ensures { result ≡ spec.is_suffix token.now }
+{
+    is_mark("[", token) || is_mark(".", token) || is_mark("->", token)
+}
+
+/// Whether a type's spelling begins with this token.
+#[tactic(auto, unfolding(crate::specs::Tokens::type_by, crate::specs::Tokens::spelled_by, crate::specs::Tokens::is_spelled, crate::specs::Tokens::is_kind, crate::specs::Tokens::found_by, crate::specs::Tokens::found_of, crate::specs::Tokens::type_word_of))]
+pub fn starts_type(token: &Token) -> bool
+    ensures { result ≡ spec.starts_type token.now }
+{
+    is_word("const", token)
+        || is_type_word(token)
+        || is_tag_word(token)
+        || is_kind(TokenKind::TypeName, token)
+}
+
+/// Whether a struct or an enum begins with this token.
+pub fn is_tag_word(token: &Token) -> bool
+    ensures { result ≡ types.is_tag_word token.now }
+{
+    is_word("struct", token) || is_word("enum", token)
+}
+
+/// Whether an expression begins with this token.
+#[tactic(auto, unfolding(crate::specs::Tokens::expr_by, crate::specs::Tokens::spelled_by, crate::specs::Tokens::is_spelled, crate::specs::Tokens::is_kind, crate::specs::Tokens::found_by, crate::specs::Tokens::found_of, crate::specs::Tokens::prefix_of))]
+pub fn starts_expr(token: &Token) -> bool
+    ensures { result ≡ spec.starts_expr token.now }
+{
+    is_kind(TokenKind::Name, token)
+        || is_kind(TokenKind::Integer, token)
+        || is_kind(TokenKind::Character, token)
+        || is_word("true", token)
+        || is_word("false", token)
+        || is_mark("(", token)
+        || is_prefix(token)
+}

@@ -1,0 +1,286 @@
+//! The rules of types' spellings (C11 6.7.2), by the first token at each place.
+
+ghost use Rattle.std.specs.Prelude.{◌++◌, ◌-◌, codes};
+ghost use Rattle.c_expr.specs.Expressions as expressions;
+ghost use Rattle.c_expr.specs.Levels.{readers_at};
+ghost use Rattle.c_expr.specs.Nested.{AreNested};
+ghost use Rattle.c_expr.specs.Outcome.{Gives};
+ghost use Rattle.c_expr.specs.Reading as reading;
+ghost use Rattle.c_expr.specs.Tokens as tokens;
+ghost use Rattle.c_expr.specs.Types as spec;
+
+use crate::cursor::Cursor;
+use crate::grammar::Grammar;
+use crate::lists::{many, many_behind, more_behind, only, separated_by};
+use crate::sizes::Sizes;
+use crate::tables::{is_kind, is_word, starts_type};
+use crate::type_words::type_words;
+use crate::unread::Unread;
+use c_tree::{
+    Dimensioned, Enumerator, Expr, Member, Named, Place, Specs, Spelling, Tag, TokenKind,
+};
+use sqlite_items::Items;
+use std::alloc::Global;
+
+impl<
+    U: Fn(Global, &mut Cursor<'_>, usize, u32) -> Result<Expr, Unread>,
+    E: Fn(Global, &mut Cursor<'_>, usize, u32) -> Result<Expr, Unread> + Copy,
+    S: Fn(Global, &mut Cursor<'_>, usize, u32) -> Result<Specs, Unread>,
+> Grammar<U, E, S> {
+    /// `NAME dims`, nested in a struct.
+    #[tactic(auto, unfolding(crate::specs::Types::read_dimensioned))]
+    fn dimensioned(&self, cursor: &mut Cursor<'_>) -> Result<Dimensioned, Unread>
+        requires { AreNested self.now.size self.now.left (U.pre self.now.unary) (U.post self.now.unary) (E.pre self.now.expr) (E.post self.now.expr) (S.pre self.now.specs) (S.post self.now.specs) }
+        ensures { Gives (spec.read_dimensioned self.now.size (self.now.left - 1) (readers_at self.now.size (self.now.left - 1)).expr cursor.old) result cursor.new }
+    {
+        let name = cursor.name(self.alloc, self.left - 1)?;
+        let sizes = Sizes {
+            alloc: self.alloc,
+            size: self.size,
+            left: self.left - 1,
+            expr: self.expr,
+        };
+        let dimensions = sizes.dimensions(cursor)?;
+        Ok(Dimensioned { name, dimensions })
+    }
+
+    /// `NAME dims ("," NAME dims)*`, nested in a struct.
+    fn some_dimensioned(&self, cursor: &mut Cursor<'_>) -> Result<Items<Dimensioned>, Unread>
+        requires { AreNested self.now.size self.now.left (U.pre self.now.unary) (U.post self.now.unary) (E.pre self.now.expr) (E.post self.now.expr) (S.pre self.now.specs) (S.post self.now.specs) }
+        ensures { Gives (expressions.separated_by self.now.size (codes ",") (self.now.left - 1) (spec.read_dimensioned self.now.size (self.now.left - 1) (readers_at self.now.size (self.now.left - 1)).expr) cursor.old) result cursor.new }
+    {
+        separated_by(
+            self.alloc,
+            cursor,
+            self.size,
+            self.left - 1,
+            ",",
+            |cursor| self.dimensioned(cursor),
+        )
+    }
+
+    /// `specs NAME dims ("," NAME dims)* ";"`, nested in a struct.
+    #[tactic(auto, using(crate::proofs::Depths::left_of), unfolding(crate::specs::Types::read_members_of))]
+    fn members_of(&self, cursor: &mut Cursor<'_>) -> Result<Member, Unread>
+        requires { AreNested self.now.size self.now.left (U.pre self.now.unary) (U.post self.now.unary) (E.pre self.now.expr) (E.post self.now.expr) (S.pre self.now.specs) (S.post self.now.specs) }
+        ensures { Gives (spec.read_members_of self.now.size (readers_at self.now.size (self.now.left - 1)) cursor.old) result cursor.new }
+    {
+        let specs = self.nested_specs(cursor)?;
+        let names = self.some_dimensioned(cursor)?;
+        cursor.mark(";", self.left - 1)?;
+        Ok(Member { specs, names })
+    }
+
+    /// Members behind the first.
+    fn more_members(
+        &self,
+        cursor: &mut Cursor<'_>,
+        first: Items<Member>,
+    ) -> Result<Items<Member>, Unread>
+        requires { AreNested self.now.size self.now.left (U.pre self.now.unary) (U.post self.now.unary) (E.pre self.now.expr) (E.post self.now.expr) (S.pre self.now.specs) (S.post self.now.specs) }
+        ensures { Gives (reading.after (reading.many self.now.size tokens.starts_type (spec.read_members_of self.now.size (readers_at self.now.size (self.now.left - 1))) cursor.old) (λ rest. reading.give (first ++ rest))) result cursor.new }
+    {
+        many_behind(
+            cursor,
+            self.size,
+            |token| starts_type(token),
+            |cursor| self.members_of(cursor),
+            first,
+        )
+    }
+
+    /// `"{" member+ "}"`
+    #[tactic(auto, using(crate::proofs::Depths::left_of), unfolding(crate::specs::Types::read_struct_body))]
+    fn struct_body(&self, cursor: &mut Cursor<'_>) -> Result<Items<Member>, Unread>
+        requires { AreNested self.now.size self.now.left (U.pre self.now.unary) (U.post self.now.unary) (E.pre self.now.expr) (E.post self.now.expr) (S.pre self.now.specs) (S.post self.now.specs) }
+        ensures { Gives (spec.read_struct_body self.now.size (readers_at self.now.size (self.now.left - 1)) cursor.old) result cursor.new }
+    {
+        cursor.mark("{", self.left - 1)?;
+        let first = self.members_of(cursor)?;
+        let members = self.more_members(cursor, only(self.alloc, first)?)?;
+        cursor.mark("}", self.left - 1)?;
+        Ok(members)
+    }
+
+    /// The body of a struct if there is one, behind its name.
+    #[tactic(auto, using(crate::proofs::Gathering::choose_sees), unfolding(crate::specs::Types::read_struct_behind))]
+    fn struct_behind(
+        &self,
+        cursor: &mut Cursor<'_>,
+        place: Place,
+        name: Named,
+    ) -> Result<Tag, Unread>
+        requires { AreNested self.now.size self.now.left (U.pre self.now.unary) (U.post self.now.unary) (E.pre self.now.expr) (E.post self.now.expr) (S.pre self.now.specs) (S.post self.now.specs) }
+        ensures { Gives (spec.read_struct_behind self.now.size (readers_at self.now.size (self.now.left - 1)) place name cursor.old) result cursor.new }
+    {
+        if cursor.sees_mark("{") {
+            let members = self.struct_body(cursor)?;
+            Ok(Tag::Struct(place, Some(name), Some(members)))
+        } else {
+            Ok(Tag::Struct(place, Some(name), None))
+        }
+    }
+
+    /// `"struct" (NAME ["{" member+ "}"] | "{" member+ "}")`
+    #[tactic(auto, using(crate::proofs::Gathering::choose_sees), unfolding(crate::specs::Types::read_struct))]
+    fn struct_tag(&self, cursor: &mut Cursor<'_>) -> Result<Tag, Unread>
+        requires { AreNested self.now.size self.now.left (U.pre self.now.unary) (U.post self.now.unary) (E.pre self.now.expr) (E.post self.now.expr) (S.pre self.now.specs) (S.post self.now.specs) }
+        ensures { Gives (spec.read_struct self.now.size self.now.left (readers_at self.now.size (self.now.left - 1)) cursor.old) result cursor.new }
+    {
+        let place = cursor.word_at("struct", self.left)?;
+        if cursor.sees_kind(TokenKind::Name) {
+            let name = cursor.name(self.alloc, self.left)?;
+            return self.struct_behind(cursor, place, name);
+        }
+        let members = self.struct_body(cursor)?;
+        Ok(Tag::Struct(place, None, Some(members)))
+    }
+
+    /// `["=" expr]`
+    #[tactic(auto, using(crate::proofs::Gathering::choose_sees), unfolding(crate::specs::Types::read_value))]
+    fn value(&self, cursor: &mut Cursor<'_>) -> Result<Option<Expr>, Unread>
+        requires { AreNested self.now.size self.now.left (U.pre self.now.unary) (U.post self.now.unary) (E.pre self.now.expr) (E.post self.now.expr) (S.pre self.now.specs) (S.post self.now.specs) }
+        ensures { Gives (spec.read_value self.now.left (expressions.read_expr self.now.size self.now.left (readers_at self.now.size (self.now.left - 1))) cursor.old) result cursor.new }
+    {
+        if cursor.sees_mark("=") {
+            cursor.mark("=", self.left)?;
+            let value = self.expr(cursor)?;
+            Ok(Some(value))
+        } else {
+            Ok(None)
+        }
+    }
+
+    /// `NAME ["=" expr]`
+    #[tactic(auto, unfolding(crate::specs::Types::read_enumerator))]
+    fn enumerator(&self, cursor: &mut Cursor<'_>) -> Result<Enumerator, Unread>
+        requires { AreNested self.now.size self.now.left (U.pre self.now.unary) (U.post self.now.unary) (E.pre self.now.expr) (E.post self.now.expr) (S.pre self.now.specs) (S.post self.now.specs) }
+        ensures { Gives (spec.read_enumerator self.now.left (expressions.read_expr self.now.size self.now.left (readers_at self.now.size (self.now.left - 1))) cursor.old) result cursor.new }
+    {
+        let name = cursor.name(self.alloc, self.left)?;
+        let value = self.value(cursor)?;
+        Ok(Enumerator { name, value })
+    }
+
+    /// Constants behind the first, and whether a comma stands behind the last.
+    fn more_enumerators(
+        &self,
+        cursor: &mut Cursor<'_>,
+        first: Items<Enumerator>,
+    ) -> Result<(Items<Enumerator>, bool), Unread>
+        requires { AreNested self.now.size self.now.left (U.pre self.now.unary) (U.post self.now.unary) (E.pre self.now.expr) (E.post self.now.expr) (S.pre self.now.specs) (S.post self.now.specs) }
+        ensures { Gives (reading.after (spec.read_more self.now.size (codes ",") (tokens.is_kind TokenKind.Name) self.now.left (spec.read_enumerator self.now.left (expressions.read_expr self.now.size self.now.left (readers_at self.now.size (self.now.left - 1)))) cursor.old) (λ rest. reading.give (first ++ rest.0, rest.1))) result cursor.new }
+    {
+        more_behind(
+            cursor,
+            self.size,
+            self.left,
+            ",",
+            |token| is_kind(TokenKind::Name, token),
+            |cursor| self.enumerator(cursor),
+            first,
+        )
+    }
+
+    /// `"{" NAME ["=" expr] ("," NAME ["=" expr])* [","] "}"`
+    #[tactic(auto, unfolding(crate::specs::Types::read_enum_body))]
+    fn enum_body(&self, cursor: &mut Cursor<'_>) -> Result<(Items<Enumerator>, bool), Unread>
+        requires { AreNested self.now.size self.now.left (U.pre self.now.unary) (U.post self.now.unary) (E.pre self.now.expr) (E.post self.now.expr) (S.pre self.now.specs) (S.post self.now.specs) }
+        ensures { Gives (spec.read_enum_body self.now.size self.now.left (expressions.read_expr self.now.size self.now.left (readers_at self.now.size (self.now.left - 1))) cursor.old) result cursor.new }
+    {
+        cursor.mark("{", self.left)?;
+        let first = self.enumerator(cursor)?;
+        let (constants, comma) = self.more_enumerators(cursor, only(self.alloc, first)?)?;
+        cursor.mark("}", self.left)?;
+        Ok((constants, comma))
+    }
+
+    /// The body of an enum if there is one, behind its name.
+    #[tactic(auto, using(crate::proofs::Gathering::choose_sees), unfolding(crate::specs::Types::read_enum_behind))]
+    fn enum_behind(&self, cursor: &mut Cursor<'_>, place: Place, name: Named) -> Result<Tag, Unread>
+        requires { AreNested self.now.size self.now.left (U.pre self.now.unary) (U.post self.now.unary) (E.pre self.now.expr) (E.post self.now.expr) (S.pre self.now.specs) (S.post self.now.specs) }
+        ensures { Gives (spec.read_enum_behind self.now.size self.now.left (expressions.read_expr self.now.size self.now.left (readers_at self.now.size (self.now.left - 1))) place name cursor.old) result cursor.new }
+    {
+        if cursor.sees_mark("{") {
+            let (constants, comma) = self.enum_body(cursor)?;
+            Ok(Tag::Enum(place, Some(name), Some(constants), comma))
+        } else {
+            Ok(Tag::Enum(place, Some(name), None, false))
+        }
+    }
+
+    /// `"enum" (NAME ["{" list "}"] | "{" list "}")`
+    #[tactic(auto, using(crate::proofs::Gathering::choose_sees), unfolding(crate::specs::Types::read_enum))]
+    fn enum_tag(&self, cursor: &mut Cursor<'_>) -> Result<Tag, Unread>
+        requires { AreNested self.now.size self.now.left (U.pre self.now.unary) (U.post self.now.unary) (E.pre self.now.expr) (E.post self.now.expr) (S.pre self.now.specs) (S.post self.now.specs) }
+        ensures { Gives (spec.read_enum self.now.size self.now.left (expressions.read_expr self.now.size self.now.left (readers_at self.now.size (self.now.left - 1))) cursor.old) result cursor.new }
+    {
+        let place = cursor.word_at("enum", self.left)?;
+        if cursor.sees_kind(TokenKind::Name) {
+            let name = cursor.name(self.alloc, self.left)?;
+            return self.enum_behind(cursor, place, name);
+        }
+        let (constants, comma) = self.enum_body(cursor)?;
+        Ok(Tag::Enum(place, None, Some(constants), comma))
+    }
+
+    /// A struct or an enum.
+    #[tactic(auto, using(crate::proofs::Gathering::choose_sees), unfolding(crate::specs::Types::read_tag))]
+    pub fn tag(&self, cursor: &mut Cursor<'_>) -> Result<Tag, Unread>
+        requires { AreNested self.now.size self.now.left (U.pre self.now.unary) (U.post self.now.unary) (E.pre self.now.expr) (E.post self.now.expr) (S.pre self.now.specs) (S.post self.now.specs) }
+        ensures { Gives (spec.read_tag self.now.size self.now.left (readers_at self.now.size (self.now.left - 1)) (expressions.read_expr self.now.size self.now.left (readers_at self.now.size (self.now.left - 1))) cursor.old) result cursor.new }
+    {
+        if cursor.sees_word("struct") {
+            self.struct_tag(cursor)
+        } else {
+            self.enum_tag(cursor)
+        }
+    }
+
+    /// Words, a name that a `typedef` declares, a struct or an enum.
+    #[tactic(auto, using(crate::proofs::Gathering::choose_sees), unfolding(crate::specs::Types::read_spelling))]
+    fn spelling(&self, cursor: &mut Cursor<'_>) -> Result<Spelling, Unread>
+        requires { AreNested self.now.size self.now.left (U.pre self.now.unary) (U.post self.now.unary) (E.pre self.now.expr) (E.post self.now.expr) (S.pre self.now.specs) (S.post self.now.specs) }
+        ensures { Gives (spec.read_spelling self.now.size self.now.left (readers_at self.now.size (self.now.left - 1)) (expressions.read_expr self.now.size self.now.left (readers_at self.now.size (self.now.left - 1))) cursor.old) result cursor.new }
+    {
+        if cursor.sees_type_word() {
+            return type_words(self.alloc, cursor, self.size, self.left);
+        }
+        if cursor.sees_kind(TokenKind::TypeName) {
+            let name = cursor.type_name(self.alloc, self.left)?;
+            return Ok(Spelling::TypeName(name));
+        }
+        let tag = self.tag(cursor)?;
+        Ok(Spelling::Tag(tag))
+    }
+
+    /// `"const"*`
+    #[tactic(auto, unfolding(crate::specs::Types::read_constants))]
+    fn constants(&self, cursor: &mut Cursor<'_>) -> Result<Items<Place>, Unread>
+        ensures { Gives (spec.read_constants self.now.size self.now.left cursor.old) result cursor.new }
+    {
+        many(
+            self.alloc,
+            cursor,
+            self.size,
+            |token| is_word("const", token),
+            |cursor| cursor.word_at("const", self.left),
+        )
+    }
+
+    /// `"const"* (words | tag | TYPENAME) "const"*`
+    #[tactic(auto, unfolding(crate::specs::Types::read_specs))]
+    pub fn specs(&self, cursor: &mut Cursor<'_>) -> Result<Specs, Unread>
+        requires { AreNested self.now.size self.now.left (U.pre self.now.unary) (U.post self.now.unary) (E.pre self.now.expr) (E.post self.now.expr) (S.pre self.now.specs) (S.post self.now.specs) }
+        ensures { Gives (spec.read_specs self.now.size self.now.left (readers_at self.now.size (self.now.left - 1)) (expressions.read_expr self.now.size self.now.left (readers_at self.now.size (self.now.left - 1))) cursor.old) result cursor.new }
+    {
+        let before = self.constants(cursor)?;
+        let kind = self.spelling(cursor)?;
+        let after = self.constants(cursor)?;
+        Ok(Specs {
+            before,
+            kind,
+            after,
+        })
+    }
+}
