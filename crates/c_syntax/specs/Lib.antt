@@ -1,0 +1,7 @@
+pub mod Blocks
+pub mod Items
+pub mod Levels
+pub mod Loops
+pub mod Programs
+pub mod Starts
+pub mod Statements
