@@ -1,5 +1,5 @@
 -- Chains of operators, gathered from the first operand on.
-use Rattle.std.proofs.Common.{◌≡◌, ◌<◌, ℕ, suc, ◌-◌, List, [], refl, sym, ap, ◌∙◌, arith}
+use Rattle.std.proofs.Common.{◌≡◌, ◌<◌, ◌≤◌, ℕ, zero, suc, ◌+◌, ◌-◌, List, [], refl, sym, ap, subst, ◌∙◌, arith}
 use Rattle.c_tree.specs.declared.token.Token.{Token}
 use Rattle.c_tree.specs.declared.token.Place.{Place}
 use Rattle.c_tree.specs.declared.expressions.Expr.{Expr}
@@ -35,33 +35,59 @@ module _ (level left : ℕ) (read : Reader Expr) where
       ap (λ r. after r (λ found. read >>= λ value. give (roll-Operand (record { place = found.0; operator = found.1; value = value })))) e
       ∙ ap (λ r. after r (λ value. give (roll-Operand (record { place = found.0; operator = found.1; value = value })))) h
 
-opened_suc : (size left : ℕ) (inner : Inner) (above : ℕ) (l : List Token) → read_chain (suc above) size left inner l ≡ after (read_chain above size left inner l) (λ first. many size (is_operator (10 - above)) (read_operand (10 - above) left (read_chain above size left inner)) >>= λ rest. give (chained first rest))
-unfolding read_chain
-opened_suc size left inner above l = refl
-
-module _ (above size left : ℕ) (inner : Inner) where
+module _ (below size left : ℕ) (inner : Inner) where
   abbrev pub operand_reader : Reader Operand
-  operand_reader = read_operand (11 - above) left (read_chain (above - 1) size left inner)
+  operand_reader = read_operand (10 - below) left (read_chain below size left inner)
 
-  abbrev pub others : Reader (List Operand)
-  others = many size (is_operator (11 - above)) operand_reader
+  -- what stands behind the first operand
+  abbrev pub behind : Expr → Reader Expr
+  behind first l = chained_all first (many size (is_operator (10 - below)) operand_reader l)
 
-  pub chain_alone : (l : List Token) → above ≡ 0 → read_chain above size left inner l ≡ read_unary size left inner l
-  unfolding read_chain
-  chain_alone l e = ap (λ n. read_chain n size left inner l) e
-
-  opened : (l : List Token) → 0 < above → read_chain above size left inner l ≡ after (read_chain (above - 1) size left inner l) (λ first. others >>= λ rest. give (chained first rest))
-  opened l some = let deeper : above ≡ suc (above - 1) = omega arith in let same : 10 - (above - 1) ≡ 11 - above = omega arith in
-      ap (λ n. read_chain n size left inner l) deeper ∙ opened_suc size left inner (above - 1) l
-      ∙ ap (λ n. after (read_chain (above - 1) size left inner l) (λ first. many size (is_operator n) (read_operand n left (read_chain (above - 1) size left inner)) >>= λ rest. give (chained first rest))) same
-
-  pub first_fails : (l new : List Token) (fault : Unread) → 0 < above → Fails (read_chain (above - 1) size left inner l) fault new → Fails (read_chain above size left inner l) fault new
-  first_fails l new fault some h = fails_as _ _ fault new (opened l some) (fails_after _ (λ first. others >>= λ rest. give (chained first rest)) fault new h)
-
-  pub chain_init : (l mid : List Token) (first : Expr) (found : List Operand) → 0 < above → read_chain (above - 1) size left inner l ≡ good first mid → found ≡ [] → read_chain above size left inner l ≡ chained_all first (gathered found (many (size - 0) (is_operator (11 - above)) operand_reader mid))
-  chain_init l mid first found some e f =
+  pub behind_init : (l : List Token) (first : Expr) (found : List Operand) → found ≡ [] → behind first l ≡ chained_all first (gathered found (many (size - 0) (is_operator (10 - below)) operand_reader l))
+  behind_init l first found e =
       let all : size ≡ size - 0 = omega arith in
-      opened l some ∙ ap (λ r. after r (λ first. others >>= λ rest. give (chained first rest))) e
-      ∙ ap (chained_all first) (sym (gathered_none (others mid)))
-      ∙ ap (λ fs. chained_all first (gathered fs (others mid))) (sym f)
-      ∙ ap (λ n. chained_all first (gathered found (many n (is_operator (11 - above)) operand_reader mid))) all
+      ap (chained_all first) (sym (gathered_none (many size (is_operator (10 - below)) operand_reader l)))
+      ∙ ap (λ fs. chained_all first (gathered fs (many size (is_operator (10 - below)) operand_reader l))) (sym e)
+      ∙ ap (λ n. chained_all first (gathered found (many n (is_operator (10 - below)) operand_reader l))) all
+
+  -- one level more
+  level_is : (l : List Token) → read_chain (suc below) size left inner l ≡ after (read_chain below size left inner l) behind
+  unfolding read_chain
+  level_is l = refl
+
+  level_opened : (l mid : List Token) (first : Expr) → read_chain below size left inner l ≡ good first mid → read_chain (suc below) size left inner l ≡ behind first mid
+  level_opened l mid first h = level_is l ∙ ap (λ a. after a behind) h
+
+  pub level_good : (l mid new : List Token) (first chain : Expr) → read_chain below size left inner l ≡ good first mid → behind first mid ≡ good chain new → read_chain (below + 1) size left inner l ≡ good chain new
+  level_good l mid new first chain h g = let next : below + 1 ≡ suc below = omega arith in ap (λ n. read_chain n size left inner l) next ∙ level_opened l mid first h ∙ g
+
+  level_fails : (l new : List Token) (fault : Unread) → Fails (read_chain below size left inner l) fault new → Fails (read_chain (suc below) size left inner l) fault new
+  level_fails l new fault h = fails_as _ _ fault new (level_is l) (fails_after _ behind fault new h)
+
+module _ (size left : ℕ) (inner : Inner) where
+  fails_above : (more below : ℕ) (l new : List Token) (fault : Unread) → Fails (read_chain below size left inner l) fault new → Fails (read_chain (more + below) size left inner l) fault new
+  fails_above zero below l new fault h = let same : below ≡ 0 + below = omega arith in subst (λ n. Fails (read_chain n size left inner l) fault new) same h
+  fails_above (suc more) below l new fault h =
+      let same : suc (more + below) ≡ suc more + below = omega arith in
+      subst (λ n. Fails (read_chain n size left inner l) fault new) same (level_fails (more + below) size left inner l new fault (fails_above more below l new fault h))
+
+  -- a fault at one level is the fault at all above
+  fails_at : (above below : ℕ) (l new : List Token) (fault : Unread) → below ≤ above → Fails (read_chain below size left inner l) fault new → Fails (read_chain above size left inner l) fault new
+  fails_at above below l new fault within h =
+      let same : (above - below) + below ≡ above = omega arith in
+      subst (λ n. Fails (read_chain n size left inner l) fault new) same (fails_above (above - below) below l new fault h)
+
+  as_chain : (l new : List Token) (fault : Unread) → Fails (read_unary size left inner l) fault new → Fails (read_chain 0 size left inner l) fault new
+  unfolding read_chain
+  as_chain l new fault h = h
+
+  pub unary_fails : (above : ℕ) (l new : List Token) (fault : Unread) → Fails (read_unary size left inner l) fault new → Fails (read_chain above size left inner l) fault new
+  unary_fails above l new fault h = fails_at above 0 l new fault (omega arith) (as_chain l new fault h)
+
+  pub operands_fail : (above below : ℕ) (l mid new : List Token) (first : Expr) (fault : Unread) → below < above → read_chain below size left inner l ≡ good first mid → Fails (behind below size left inner first mid) fault new → Fails (read_chain above size left inner l) fault new
+  operands_fail above below l mid new first fault within h g =
+      fails_at above (suc below) l new fault (omega (arith, within)) (fails_as _ _ fault new (level_opened below size left inner l mid first h) g)
+
+  pub unary_good : (l : List Token) (answer : Answer Expr) → read_unary size left inner l ≡ answer → read_chain 0 size left inner l ≡ answer
+  unfolding read_chain
+  unary_good l answer h = h

@@ -1,5 +1,6 @@
 pub mod Advancing
 pub mod Agreeing
+pub mod Answering
 pub mod Beginning
 pub mod Binding
 pub mod Chaining
@@ -7,6 +8,7 @@ pub mod Chains
 pub mod Choosing
 pub mod Depths
 pub mod Dimensioning
+pub mod Ending
 pub mod Enums
 pub mod Failing
 pub mod Gathering
@@ -20,6 +22,7 @@ pub mod Primaries
 pub mod Probing
 pub mod Reader
 pub mod Repeating
+pub mod Returning
 pub mod Separating
 pub mod Shrinking
 pub mod Sizing

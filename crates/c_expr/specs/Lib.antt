@@ -1,4 +1,5 @@
 pub mod Ahead
+pub mod Alone
 pub mod Closures
 pub mod Counting
 pub mod CountsCode

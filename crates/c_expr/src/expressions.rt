@@ -1,6 +1,6 @@
 //! The rules of expressions (C11 6.5), by the first token at each place.
 
-ghost use Rattle.std.specs.Prelude.{◌≡◌, ◌≤◌, ◌-◌, codes, IfOk};
+ghost use Rattle.std.specs.Prelude.{◌≡◌, ◌<◌, ◌≤◌, ◌-◌, codes, IfOk};
 ghost use Rattle.c_expr.specs.Expressions as spec;
 ghost use Rattle.c_expr.specs.Levels.{readers_at};
 ghost use Rattle.c_expr.specs.Nested.{AreNested};
@@ -291,23 +291,20 @@ impl<
     E: Fn(Global, &mut Cursor<'_>, usize, u32) -> Result<Expr, Unread>,
     S: Fn(Global, &mut Cursor<'_>, usize, u32) -> Result<Specs, Unread>,
 > Grammar<U, E, S> {
-    /// The chains of so many levels above the unary expressions.
-    pub fn chain(&self, cursor: &mut Cursor<'_>, above: u8) -> Result<Expr, Unread>
-        requires levels { above ≤ 10 }
+    /// What stands behind the first operand of a chain, whose operands are so many levels above the unary expressions.
+    #[cycle(chains)]
+    fn operands(&self, cursor: &mut Cursor<'_>, first: Expr, below: u8) -> Result<Expr, Unread>
+        requires levels { below < 10 }
         requires nested { AreNested self.now.size self.now.left (U.pre self.now.unary) (U.post self.now.unary) (E.pre self.now.expr) (E.post self.now.expr) (S.pre self.now.specs) (S.post self.now.specs) }
-        ensures { Gives (spec.read_chain above self.now.size self.now.left (readers_at self.now.size (self.now.left - 1)) cursor.old) result cursor.new }
+        ensures { Gives (reading.after (reading.many self.now.size (tokens.is_operator (10 - below)) (spec.read_operand (10 - below) self.now.left (spec.read_chain below self.now.size self.now.left (readers_at self.now.size (self.now.left - 1)))) cursor.old) (λ rest. reading.give (spec.chained first rest))) result cursor.new }
     {
-        if above == 0 {
-            return self.unary(cursor);
-        }
-        let first = self.chain(cursor, above - 1)?;
         let mut rest = Items::new(self.alloc);
         for _turn in 0..self.size {
-            if !cursor.sees_operator(11 - above) {
+            if !cursor.sees_operator(10 - below) {
                 break;
             }
-            let (place, operator) = cursor.operator_at(11 - above, self.left)?;
-            let value = self.chain(cursor, above - 1)?;
+            let (place, operator) = cursor.operator_at(10 - below, self.left)?;
+            let value = self.chain(cursor, below)?;
             rest.push(Operand {
                 place,
                 operator,
@@ -315,6 +312,21 @@ impl<
             })?;
         }
         Ok(chained(self.alloc, first, rest)?)
+    }
+
+    /// The chains of so many levels above the unary expressions: the first operand, and then level by level what stands
+    /// behind it, so that no level of operators takes a call of its own in front of a bracket.
+    #[cycle(chains)]
+    pub fn chain(&self, cursor: &mut Cursor<'_>, above: u8) -> Result<Expr, Unread>
+        requires levels { above ≤ 10 }
+        requires nested { AreNested self.now.size self.now.left (U.pre self.now.unary) (U.post self.now.unary) (E.pre self.now.expr) (E.post self.now.expr) (S.pre self.now.specs) (S.post self.now.specs) }
+        ensures { Gives (spec.read_chain above self.now.size self.now.left (readers_at self.now.size (self.now.left - 1)) cursor.old) result cursor.new }
+    {
+        let mut chain = self.unary(cursor)?;
+        for below in 0..above {
+            chain = self.operands(cursor, chain, below)?;
+        }
+        Ok(chain)
     }
 
     /// An expression.

@@ -15,10 +15,13 @@
 //! | `specs/Levels.antt` | the readers of all levels of nesting |
 //! | `specs/Outcome.antt` | what a function returns that reads, by what its reader gives |
 //! | `specs/Closures.antt`, `specs/Nested.antt` | the same of functions that are passed as parameters |
+//! | `specs/Runs.antt`, `specs/Alone.antt` | the longest run of tokens with which some expression begins, and whether it is one |
 //!
 //! A [`Cursor`] holds the tokens that are left, and each function that reads takes them from it as its reader says. An
 //! `Err` leaves the cursor at the token that doesn't fit or is nested too deeply. Want of memory is the one fault of which
 //! the contracts don't say when it comes.
+//!
+//! [`expression`] reads the expression at a place of a list, which may go on behind it.
 //!
 //! Crates above can import `all_read` of `proofs/Levels.antt`: the readers of each level are readers of its trees.
 //! `proofs/Reader.antt` says what that is: what is read is spelled; in front of a fault stands the beginning of a tree;
@@ -33,6 +36,7 @@ mod grammar;
 mod laws;
 mod lists;
 mod nesting;
+mod run;
 mod samples;
 mod sizes;
 mod tables;
@@ -46,6 +50,7 @@ pub use faults::{SyntaxFault, fault_at, names_construct};
 pub use laws::{one_expression, one_type};
 pub use lists::{many, many_behind, more_behind, only, separated_by};
 pub use nesting::{dimensions, expr, specs, tag, unary};
+pub use run::expression;
 pub use samples::Sample;
 pub use tables::{
     found_of, is_kind, is_literal, is_mark, is_operator, is_prefix, is_suffix, is_tag_word,
