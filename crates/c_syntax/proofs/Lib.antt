@@ -9,7 +9,9 @@ pub mod Ifs
 pub mod Itemising
 pub mod Leading
 pub mod Optionals
+pub mod Parsing
 pub mod Programming
+pub mod Reading
 pub mod Singles
 pub mod Sizing
 pub mod Stating

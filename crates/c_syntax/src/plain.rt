@@ -1,0 +1,115 @@
+//! Statements that hold no statement (C11 6.8.3, 6.8.6), and labels and conditions (C11 6.8.1, 6.8.4).
+
+ghost use Rattle.std.specs.Prelude.{◌≡◌};
+ghost use Rattle.c_expr.specs.Outcome.{Gives};
+ghost use Rattle.c_syntax.specs.Statements as spec;
+
+use c_decl::Rules;
+use c_expr::{Cursor, Unread, expr};
+use c_tree::{Expr, Label, Statement};
+
+/// `";"`
+#[tactic(auto, unfolding(crate::specs::Statements::read_empty))]
+pub fn empty(rules: Rules, cursor: &mut Cursor<'_>) -> Result<Statement, Unread>
+    ensures { Gives (spec.read_empty rules.left cursor.old) result cursor.new }
+{
+    let place = cursor.mark_at(";", rules.left)?;
+    Ok(Statement::Empty(place))
+}
+
+/// `simple ";"`
+#[tactic(auto, unfolding(crate::specs::Statements::read_simple_statement))]
+pub fn simple_statement(rules: Rules, cursor: &mut Cursor<'_>) -> Result<Statement, Unread>
+    ensures { Gives (spec.read_simple_statement rules.size rules.left cursor.old) result cursor.new }
+{
+    let value = rules.simple(cursor)?;
+    cursor.mark(";", rules.left)?;
+    Ok(Statement::Simple(value))
+}
+
+/// `"break" ";"`
+#[tactic(auto, unfolding(crate::specs::Statements::read_break))]
+pub fn break_statement(rules: Rules, cursor: &mut Cursor<'_>) -> Result<Statement, Unread>
+    ensures { Gives (spec.read_break rules.left cursor.old) result cursor.new }
+{
+    let place = cursor.word_at("break", rules.left)?;
+    cursor.mark(";", rules.left)?;
+    Ok(Statement::Break(place))
+}
+
+/// `"continue" ";"`
+#[tactic(auto, unfolding(crate::specs::Statements::read_continue))]
+pub fn continue_statement(rules: Rules, cursor: &mut Cursor<'_>) -> Result<Statement, Unread>
+    ensures { Gives (spec.read_continue rules.left cursor.old) result cursor.new }
+{
+    let place = cursor.word_at("continue", rules.left)?;
+    cursor.mark(";", rules.left)?;
+    Ok(Statement::Continue(place))
+}
+
+/// An expression, unless this mark comes next.
+#[tactic(auto, using(c_expr::proofs::Gathering::choose_sees), unfolding(crate::specs::Statements::read_unless))]
+pub fn unless(rules: Rules, cursor: &mut Cursor<'_>, text: &str) -> Result<Option<Expr>, Unread>
+    ensures { Gives (spec.read_unless text.now rules.size rules.left cursor.old) result cursor.new }
+{
+    if cursor.sees_mark(text) {
+        return Ok(None);
+    }
+    let value = expr(rules.alloc, cursor, rules.size, rules.left)?;
+    Ok(Some(value))
+}
+
+/// `"return" [expr] ";"`
+#[tactic(auto, unfolding(crate::specs::Statements::read_return))]
+pub fn return_statement(rules: Rules, cursor: &mut Cursor<'_>) -> Result<Statement, Unread>
+    ensures { Gives (spec.read_return rules.size rules.left cursor.old) result cursor.new }
+{
+    let place = cursor.word_at("return", rules.left)?;
+    let value = unless(rules, cursor, ";")?;
+    cursor.mark(";", rules.left)?;
+    Ok(Statement::Return(place, value))
+}
+
+/// `"(" expr ")"`, in brackets that don't nest.
+#[tactic(auto, unfolding(crate::specs::Statements::read_condition))]
+pub fn condition(rules: Rules, cursor: &mut Cursor<'_>) -> Result<Expr, Unread>
+    ensures { Gives (spec.read_condition rules.size rules.left cursor.old) result cursor.new }
+{
+    cursor.mark("(", rules.left)?;
+    let value = expr(rules.alloc, cursor, rules.size, rules.left)?;
+    cursor.mark(")", rules.left)?;
+    Ok(value)
+}
+
+/// `"case" cond ":"`
+#[tactic(auto, unfolding(crate::specs::Statements::read_case))]
+fn case(rules: Rules, cursor: &mut Cursor<'_>) -> Result<Label, Unread>
+    ensures { Gives (spec.read_case rules.size rules.left cursor.old) result cursor.new }
+{
+    let place = cursor.word_at("case", rules.left)?;
+    let value = expr(rules.alloc, cursor, rules.size, rules.left)?;
+    cursor.mark(":", rules.left)?;
+    Ok(Label::Case(place, value))
+}
+
+/// `"default" ":"`
+#[tactic(auto, unfolding(crate::specs::Statements::read_default))]
+fn default(rules: Rules, cursor: &mut Cursor<'_>) -> Result<Label, Unread>
+    ensures { Gives (spec.read_default rules.left cursor.old) result cursor.new }
+{
+    let place = cursor.word_at("default", rules.left)?;
+    cursor.mark(":", rules.left)?;
+    Ok(Label::Default(place))
+}
+
+/// A label.
+#[tactic(auto, using(c_expr::proofs::Gathering::choose_sees), unfolding(crate::specs::Statements::read_label))]
+pub fn label(rules: Rules, cursor: &mut Cursor<'_>) -> Result<Label, Unread>
+    ensures { Gives (spec.read_label rules.size rules.left cursor.old) result cursor.new }
+{
+    if cursor.sees_word("case") {
+        case(rules, cursor)
+    } else {
+        default(rules, cursor)
+    }
+}
