@@ -25,3 +25,6 @@ mod starts;
 pub use c_expr::SyntaxFault;
 pub use laws::one_program;
 pub use parser::parse;
+
+#[cfg(test)]
+mod tests;
