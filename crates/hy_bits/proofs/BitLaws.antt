@@ -53,7 +53,7 @@ unfolding low_bits
 length-low_bits zero a = refl
 length-low_bits (suc n) a = ap suc (length-low_bits n (a / 2))
 
-bit-odd : (a : ℕ) → bit (eqb (a % 2) 1) ≡ a % 2
+pub bit-odd : (a : ℕ) → bit (eqb (a % 2) 1) ≡ a % 2
 bit-odd a = grind arith
 
 -- one place of the remainder and of the quotient by a power of two
@@ -147,19 +147,19 @@ module _ (op : ℕ → ℕ → ℕ) (f : Bool → Bool → Bool) (on_bits : (x y
   number-bitwise on_zeros (x ∷ xs) (y ∷ ys) same =
       rw (low_place x y (number xs) (number ys), number-bitwise on_zeros xs ys (omega arith)) refl
 
-and-bits : (x y : Bool) → bit_and (bit x) (bit y) ≡ bit (x && y)
+pub and-bits : (x y : Bool) → bit_and (bit x) (bit y) ≡ bit (x && y)
 and-bits true true = refl
 and-bits true false = refl
 and-bits false true = refl
 and-bits false false = refl
 
-or-bits : (x y : Bool) → bit_or (bit x) (bit y) ≡ bit (x || y)
+pub or-bits : (x y : Bool) → bit_or (bit x) (bit y) ≡ bit (x || y)
 or-bits true true = refl
 or-bits true false = refl
 or-bits false true = refl
 or-bits false false = refl
 
-xor-bits : (x y : Bool) → bit_xor (bit x) (bit y) ≡ bit (xor x y)
+pub xor-bits : (x y : Bool) → bit_xor (bit x) (bit y) ≡ bit (xor x y)
 xor-bits true true = refl
 xor-bits true false = refl
 xor-bits false true = refl

@@ -4,3 +4,5 @@ pub mod Op
 pub mod Scalar
 pub mod Words
 pub mod Shape
+pub mod Ports
+pub mod Sizes

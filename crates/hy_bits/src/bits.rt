@@ -4,7 +4,7 @@ ghost use Rattle.hy_bits.specs.Words.{bits, IsWord};
 
 use crate::width::Width;
 
-/// Writes the bits of a word, lowest first.
+/// Writes the bits of the word `a` into `out`, lowest first.
 pub fn bits_of(w: Width, a: u64, out: &mut [bool])
     requires word { IsWord w a }
     requires places { length out.old ≡ bits w }
@@ -17,7 +17,7 @@ pub fn bits_of(w: Width, a: u64, out: &mut [bool])
     }
 }
 
-/// The number whose bits these are, lowest first.
+/// The number whose bits are `bits`, lowest first.
 pub fn word_of(bits: &[bool]) -> u64
     requires { length bits.now ≤ 64 }
     ensures { result ≡ number bits.now }

@@ -31,6 +31,10 @@ pub struct Port {
 
 impl Shape {
     /// A copy of the shape, in time that grows with its size.
+    ///
+    /// # Errors
+    ///
+    /// Memory ran out.
     #[cycle(copies)]
     pub fn copy(&self, alloc: Global) -> Result<Shape, Memory>
         ensures { IfOk result (λ copy. copy ≡ self.now) }
@@ -59,6 +63,10 @@ fn copy_of_fields(alloc: Global, fields: &Items<Field>) -> Result<Items<Field>, 
 
 impl Field {
     /// A copy of the field, in time that grows with its size.
+    ///
+    /// # Errors
+    ///
+    /// Memory ran out.
     #[cycle(copies)]
     pub fn copy(&self, alloc: Global) -> Result<Field, Memory>
         ensures { IfOk result (λ copy. copy ≡ self.now) }
@@ -71,6 +79,10 @@ impl Field {
 
 impl Port {
     /// A copy of the port, in time that grows with its size.
+    ///
+    /// # Errors
+    ///
+    /// Memory ran out.
     pub fn copy(&self, alloc: Global) -> Result<Port, Memory>
         ensures { IfOk result (λ copy. copy ≡ self.now) }
     {

@@ -18,14 +18,18 @@ impl Model for Text {
 }
 
 impl Text {
-    /// The text of these bytes. It takes no memory.
+    /// The text of `bytes`. It takes no memory.
     pub fn new(bytes: Vec<u8>) -> Text
         ensures { result ≡ bytes.items }
     {
         Text { bytes }
     }
 
-    /// A copy of these bytes.
+    /// A text with a copy of `bytes`.
+    ///
+    /// # Errors
+    ///
+    /// Memory ran out.
     pub fn copy_of(alloc: Global, bytes: &[u8]) -> Result<Text, Memory>
         ensures { IfOk result (λ text. text ≡ bytes.now) }
     {
@@ -47,7 +51,7 @@ impl Text {
         self.bytes
     }
 
-    /// Whether the text is exactly these bytes.
+    /// Whether the text is exactly `bytes`.
     pub fn is(&self, bytes: &[u8]) -> bool
         ensures { result ≡ bytes_eq self.now bytes.now }
     {

@@ -1,5 +1,7 @@
 ghost use Rattle.std.specs.Prelude.{◌≡◌, ◌≤◌, List, length, vec_len};
+ghost use Rattle.hy_bits.specs.Ports.{turn_limit};
 
+use crate::Sequence;
 use std::marker::Model;
 
 /// One of the two parties.
@@ -9,41 +11,44 @@ pub enum Role {
     P1,
 }
 
-/// Whose turn it is, move after move: 1 to 4096 roles, which repeat. Contracts see the list of the roles.
+/// The most roles that a list of turns has.
+pub const TURN_LIMIT: usize = 4096;
+
+/// Whose turn it is, move after move: 1 to `TURN_LIMIT` roles, which repeat. Contracts see the list of the roles.
 #[derive(Debug, Drop)]
 pub struct Turns {
-    roles: Vec<Role>,
+    roles: Sequence<Role>,
 }
 
 impl Model for Turns {
     ghost use Rattle.std.specs.Prelude.{List, length, ◌≤◌};
+    ghost use Rattle.hy_bits.specs.Ports.{turn_limit};
     ghost use Rattle.hy_bits.specs.declared.turns.Role.{Role};
 
     ghost Value = { List Role };
 
-    ghost view = { λ t. t.roles.items };
+    ghost view = { λ t. t.roles };
 
-    ghost invariant = { λ t. (1 ≤ length t.roles.items) × (length t.roles.items ≤ 4096) };
+    ghost invariant = { λ t. (1 ≤ length t.roles) × (length t.roles ≤ turn_limit) };
 }
 
 impl Turns {
-    /// The most roles that a list of turns has.
-    pub const MOST: usize = 4096;
-
-    /// The turns of these roles. It takes no memory.
+    /// The turns that are `roles`. It takes no memory.
     pub fn new(roles: Vec<Role>) -> Turns
         requires some { 1 ≤ length roles.items }
-        requires few { length roles.items ≤ 4096 }
+        requires few { length roles.items ≤ turn_limit }
         ensures { result ≡ roles.items }
     {
-        Turns { roles }
+        Turns {
+            roles: Sequence::new(roles),
+        }
     }
 
     /// The roles, in order.
     pub fn roles(&self) -> &[Role]
         ensures roles { result.now ≡ self.now }
         ensures some { 1 ≤ length self.now }
-        ensures few { length self.now ≤ 4096 }
+        ensures few { length self.now ≤ turn_limit }
     {
         self.roles.as_slice()
     }
@@ -52,8 +57,8 @@ impl Turns {
     pub fn into_roles(self) -> Vec<Role>
         ensures roles { result.items ≡ self }
         ensures some { 1 ≤ length self }
-        ensures few { length self ≤ 4096 }
+        ensures few { length self ≤ turn_limit }
     {
-        self.roles
+        self.roles.into_vec()
     }
 }
