@@ -10,7 +10,7 @@ use Rattle.std.proofs.lemmas.List.Elements.{filter-append, All-filter, All-appen
 use Rattle.std.proofs.lemmas.Grind.{flat_map-append}
 use Rattle.std.proofs.lemmas.List.FromFn.{map-range_with_len_more}
 use Rattle.word_graph.specs.declared.entry.Entry.{Entry}
-use Rattle.word_graph.specs.Shape.{constant_entry, constant_word}
+use Rattle.word_graph.specs.Shape.{constant_entry, constant_word, node_limit}
 use Rattle.word_graph.specs.declared.entry.Node.{Node}
 use Rattle.module_split.specs.declared.homes.Group.{Group}
 use Rattle.module_split.specs.declared.homes.Home.{Home}
@@ -302,7 +302,7 @@ length-homes layers es = omega (arith, length-homes_after layers [] es)
 pub length-groups : (es : List Entry) (layers : ℕ) (homes : List Home) (groups : List (Option Group)) → homes ≡ homes_of layers es → groups ≡ map (group_of layers) homes → length groups ≡ length es
 length-groups es layers homes groups are made = ap length made ∙ length-map homes (group_of layers) ∙ ap length are ∙ length-homes layers es
 
-pub IsBelonging-made : (es : List Entry) (layers : ℕ) (groups : List (Option Group)) (b : Belonging) → length es ≤ 2 ^ 20 → layers ≤ 64 → b.homes.items ≡ homes_of layers es →
+pub IsBelonging-made : (es : List Entry) (layers : ℕ) (groups : List (Option Group)) (b : Belonging) → length es ≤ node_limit → layers ≤ 64 → b.homes.items ≡ homes_of layers es →
     groups ≡ map (group_of layers) b.homes.items → b.order.keys ≡ order_of layers groups → b.numbers.items ≡ numbers_of b.order.keys groups → IsBelonging es layers b
 IsBelonging-made es layers groups b limit few homes made order numbers =
     let groups_are : groups ≡ groups_of layers es = made ∙ ap (map (group_of layers)) homes in

@@ -53,3 +53,10 @@ home_at-place layers es k d within =
     ∙ ap (λ (hs : List Home). home_at hs k) (homes_after-append layers [] (take (k + 1) es) (drop (k + 1) es))
     ∙ homes_after-grows layers (homes_of layers (take (k + 1) es)) (drop (k + 1) es) k Constant (omega (arith, more))
     ∙ last
+
+-- the home of a node is the same over more nodes
+pub home_at-earlier : (layers : ℕ) (es : List Entry) (a u : ℕ) → a < u → u ≤ length es → home_at (homes_of layers (take u es)) a ≡ home_at (homes_of layers es) a
+home_at-earlier layers es a u less within =
+    sym (ap (λ (fs : List Entry). home_at (homes_of layers fs) a) (sym (take-append-drop u es))
+    ∙ ap (λ (hs : List Home). home_at hs a) (homes_after-append layers [] (take u es) (drop u es))
+    ∙ homes_after-grows layers (homes_of layers (take u es)) (drop u es) a Constant (omega (arith, length-homes_after layers [] (take u es), length-take-le u es within)))

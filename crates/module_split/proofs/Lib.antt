@@ -3,3 +3,6 @@ pub mod HomeLaws
 pub mod UseLaws
 pub mod OrderLaws
 pub mod CutLaws
+pub mod PieceLaws
+pub mod GroupLaws
+pub mod ModuleLaws

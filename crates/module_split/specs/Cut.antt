@@ -1,5 +1,5 @@
 -- The modules of a graph in their order, the nodes that they use and give, and the edges between them.
-use Rattle.std.specs.Prelude.{◌==◌, ℕ, Bool, false, not, ◌&&◌, ◌||◌, List, [], ◌∷◌, ◌++◌, Option, Some, None, is_some, get_or, length, map, filter, slice_get, if◌then◌else◌}
+use Rattle.std.specs.Prelude.{◌==◌, ℕ, Bool, true, false, not, ◌&&◌, ◌||◌, List, [], ◌∷◌, ◌++◌, Option, Some, None, is_some, get_or, length, map, filter, slice_get, if◌then◌else◌}
 use Rattle.std.specs.List.{list_all, list_any, filter_map, flat_map, position, range_with_len}
 use Rattle.word_graph.specs.declared.entry.Entry.{Entry}
 use Rattle.word_graph.specs.declared.entry.Node.{Node}
@@ -8,6 +8,8 @@ use Rattle.word_graph.specs.Shape.{constant_at}
 use Rattle.module_split.specs.declared.homes.Group.{Group}
 use Rattle.module_split.specs.declared.homes.Home.{Home}
 use Rattle.module_split.specs.declared.homes.Home.TheVariants.{Input, Constant, Inside}
+use Rattle.module_split.specs.declared.module.Class.{Class}
+use Rattle.module_split.specs.declared.module.Class.TheVariants.{Arithmetic, Boolean}
 use Rattle.module_split.specs.declared.module.Module.{Module}
 use Rattle.module_split.specs.declared.module.EdgeWords.{EdgeWords}
 use Rattle.module_split.specs.Homes.{groups_of, home_at, homes_of, is_arithmetic, same_bit}
@@ -102,10 +104,15 @@ abbrev pub layer_in : Option Group → ℕ
 layer_in None = 0
 layer_in (Some group) = group.layer
 
+-- the class of a module, where this says whether all of its nodes are of the arithmetic one
+abbrev pub class_of : Bool → Class
+class_of true = Arithmetic
+class_of false = Boolean
+
 -- module m: of the arithmetic class where all of its nodes are, with its first node's region
 abbrev pub module_of : List Entry → List Home → List Group → List (Option ℕ) → List Node → ℕ → Module
 module_of es homes order numbers results m = record {
-  ring = list_all (λ k. is_arithmetic (home_at homes k)) (nodes_of numbers m);
+  class = class_of (list_all (λ k. is_arithmetic (home_at homes k)) (nodes_of numbers m));
   layer = layer_in (slice_get order m);
   region = region_in (home_at homes (get_or (nodes_of numbers m) 0 0));
   nodes = nodes_of numbers m;

@@ -4,3 +4,4 @@ pub mod Homes
 pub mod Cut
 pub mod Steps
 pub mod Parts
+pub mod Modules

@@ -4,7 +4,7 @@ use Rattle.std.specs.List.{flat_map, list_all, list_any}
 use Rattle.word_graph.specs.declared.entry.Entry.{Entry}
 use Rattle.word_graph.specs.Term.{taken_by}
 use Rattle.module_split.specs.Lists.{at, ends_with}
-use Rattle.module_split.specs.Cut.{below, edge_with, is_just, is_of, nodes_of, region_in, users_of}
+use Rattle.module_split.specs.Cut.{below, class_of, edge_with, is_just, is_of, nodes_of, region_in, users_of}
 use Rattle.module_split.specs.declared.homes.Group.{Group}
 use Rattle.module_split.specs.declared.homes.Home.{Home}
 use Rattle.module_split.specs.declared.module.Module.{Module}
@@ -68,7 +68,7 @@ pub record AddsCrossing (old new : List (List ℕ)) (numbers : List (Option ℕ)
 -- a module of these nodes
 abbrev pub module_with : List Home → ℕ → (nodes ins outs : List ℕ) → Module
 module_with homes layer nodes ins outs = record {
-  ring = list_all (λ k. is_arithmetic (home_at homes k)) nodes;
+  class = class_of (list_all (λ k. is_arithmetic (home_at homes k)) nodes);
   layer = layer;
   region = region_in (home_at homes (get_or nodes 0 0));
   nodes = nodes;

@@ -1,16 +1,17 @@
 //! The cut of a graph.
 ghost use Rattle.std.specs.Prelude.{◌≡◌, ◌<◌, ◌≤◌, ◌^◌, ◌++◌, [], ℕ, false, is_some, not, length, filter, get_or, map, slice_get, IfOk, OnOk};
 ghost use Rattle.std.specs.List.{All, flat_map, list_all, list_any};
-ghost use Rattle.word_graph.specs.Shape.{IsGraph, constant_word};
+ghost use Rattle.word_graph.specs.Shape.{IsGraph, constant_word, node_limit};
 ghost use Rattle.module_split.specs.Lists.{at};
 ghost use Rattle.module_split.specs.Homes.{home_at, is_arithmetic};
-ghost use Rattle.module_split.specs.Cut.{below, crosses_into, cut_of, edge_with, edges_to, is_of, is_result, is_variable, ins_of, layer_in, module_of, nodes_of, region_in};
+ghost use Rattle.module_split.specs.Cut.{below, class_of, crosses_into, cut_of, edge_with, edges_to, is_of, is_result, is_variable, ins_of, layer_in, module_of, nodes_of, region_in};
 ghost use Rattle.module_split.specs.Steps.{AreUsers, IsBelow, groups_words, is_out, module_number, module_with, places_of_modules};
 ghost use Rattle.module_split.specs.Parts.{IsBelonging, IsUsing};
+ghost use Rattle.module_split.specs.Modules.{layer_limit};
 
 use crate::homes::{Group, Home, groups_of, home_at, homes_of};
 use crate::lists::Lists;
-use crate::module::{EdgeWords, Module, Modules, Places};
+use crate::module::{Class, EdgeWords, Module, Modules, Places};
 use crate::order::{numbers_of, order_of};
 use crate::uses::{crossings, nodes_of, number_at, users_of};
 use hy_bits::{Memory, Op};
@@ -30,7 +31,7 @@ fn is_variable(entry: &Entry) -> bool
 
 /// The places of the nodes that are no constants, ascending.
 fn variables(alloc: Global, entries: &[Entry]) -> Result<Vec<u32>, Memory>
-    requires { length entries.now ≤ 2 ^ 20 }
+    requires { length entries.now ≤ node_limit }
     ensures { IfOk result (λ places. places.items ≡ filter (is_variable entries.now) (below (length entries.now))) }
 {
     let mut places = Vec::new(alloc);
@@ -133,6 +134,17 @@ fn are_arithmetic(homes: &[Home], nodes: &[u32]) -> bool
         .all(|node| home_at(homes, *node).is_arithmetic())
 }
 
+/// The class of a module of these nodes.
+fn class_of(homes: &[Home], nodes: &[u32]) -> Class
+    ensures { result ≡ class_of (list_all (λ k. is_arithmetic (home_at homes.now k)) nodes.now) }
+{
+    if are_arithmetic(homes, nodes) {
+        Class::Arithmetic
+    } else {
+        Class::Boolean
+    }
+}
+
 /// The region of the first of these nodes.
 fn first_region(homes: &[Home], nodes: &[u32]) -> u32
     ensures { result ≡ region_in (home_at homes.now (get_or nodes.now 0 0)) }
@@ -159,12 +171,12 @@ fn module_with(
 ) -> Result<Module, Memory>
     ensures { IfOk result (λ m. m ≡ module_with homes.now layer nodes.now ins.now outs.items) }
 {
-    let ring = are_arithmetic(homes, nodes);
+    let class = class_of(homes, nodes);
     let region = first_region(homes, nodes);
     let node_places = places(alloc, nodes)?;
     let in_places = places(alloc, ins)?;
     Ok(Module {
-        ring,
+        class,
         layer,
         region,
         nodes: node_places,
@@ -244,7 +256,7 @@ struct Using {
 
 /// Where the nodes of a graph belong.
 fn belonging_of(alloc: Global, entries: &[Entry], layers: u32) -> Result<Belonging, Memory>
-    requires limit { length entries.now ≤ 2 ^ 20 }
+    requires limit { length entries.now ≤ node_limit }
     requires some { 0 < layers }
     requires few { layers ≤ 64 }
     ensures { IfOk result (IsBelonging entries.now layers) }
@@ -268,7 +280,7 @@ fn ins_of(
     numbers: &[Option<usize>],
     count: usize,
 ) -> Result<Lists, Memory>
-    requires limit { length entries.now ≤ 2 ^ 20 }
+    requires limit { length entries.now ≤ node_limit }
     requires users { AreUsers entries.now users.now }
     requires low { All (IsBelow count) numbers.now }
     ensures count { IfOk result (λ ins. length ins ≡ count) }
@@ -385,12 +397,19 @@ fn edges_of(
     Ok(edges)
 }
 
-/// The modules of a graph and the edges between them, where these nodes are the results and there are at most so many
-/// layers. Only memory can fail. Time grows with the number of nodes.
+/// The most layers of a cut.
+pub const LAYER_LIMIT: u32 = 64;
+
+/// The modules of a graph and the edges between them, where the nodes `results` are the results and there are at most `layers`
+/// layers, of which there may be `LAYER_LIMIT`. Time grows with the number of nodes.
+///
+/// # Errors
+///
+/// Memory ran out.
 pub fn split(alloc: Global, graph: &Graph, results: &[Node], layers: u32) -> Result<Modules, Memory>
     requires stand { All (λ node. node.index < length graph.now) results.now }
     requires some { 0 < layers }
-    requires few { layers ≤ 64 }
+    requires few { layers ≤ layer_limit }
     ensures { IfOk result (λ modules. modules ≡ cut_of graph.now results.now layers) }
 {
     let entries = graph.entries();

@@ -1,51 +1,25 @@
 //! Modules and the edges between them.
 ghost use Rattle.std.specs.Prelude.{◌≡◌};
 
+use hy_bits::Sequence;
 use std::marker::Model;
 
-/// A list of nodes, by their places in the graph. Contracts see the list.
-#[derive(Drop)]
-pub struct Places {
-    list: Vec<u32>,
+/// A list of nodes, by their places in the graph.
+pub type Places = Sequence<u32>;
+
+/// The two classes of modules: of the arithmetic class are those whose nodes all are, and all others are Boolean.
+#[derive(Clone, Copy, PartialEq, Eq, Debug)]
+pub enum Class {
+    Arithmetic,
+    Boolean,
 }
 
-impl Model for Places {
-    ghost use Rattle.std.specs.Prelude.{ℕ, List};
-
-    ghost Value = { List ℕ };
-
-    ghost view = { λ places. places.list.items };
-}
-
-impl Places {
-    /// The list of these places. It takes no memory.
-    pub fn new(list: Vec<u32>) -> Places
-        ensures { result ≡ list.items }
-    {
-        Places { list }
-    }
-
-    /// The places, in order.
-    pub fn as_slice(&self) -> &[u32]
-        ensures { result.now ≡ self.now }
-    {
-        self.list.as_slice()
-    }
-
-    /// The places, given back without taking memory.
-    pub fn into_vec(self) -> Vec<u32>
-        ensures { result.items ≡ self }
-    {
-        self.list
-    }
-}
-
-/// A part of a graph. `ring` says that all of its nodes are of the arithmetic class, `layer` how many changes of class or
+/// A part of a graph. `class` is the arithmetic one where all of its nodes are of it, `layer` says how many changes of class or
 /// region lie before it at most, and `region` where its first node comes from. `ins` are the nodes outside that it uses,
 /// but for constants, and `outs` those of its nodes that are used outside or are results. All three lists ascend.
 #[derive(Drop)]
 pub struct Module {
-    pub ring: bool,
+    pub class: Class,
     pub layer: u32,
     pub region: u32,
     pub nodes: Places,
@@ -77,7 +51,7 @@ impl Model for Modules {
 }
 
 impl Modules {
-    /// The modules and edges of these lists. It takes no memory.
+    /// The modules `list` and the edges `edges`. It takes no memory.
     pub fn new(list: Vec<Module>, edges: Vec<EdgeWords>) -> Modules
         ensures { result ≡ record { list = list.items; edges = edges.items } }
     {

@@ -1,4 +1,5 @@
 //! The order of modules, and the number of each node's module.
+ghost use Rattle.word_graph.specs.Shape.{node_limit};
 ghost use Rattle.std.specs.Prelude.{◌≡◌, ◌≤◌, ◌^◌, length, map, IfOk, OnOk};
 ghost use Rattle.std.specs.List.{All, filter_map};
 ghost use Rattle.module_split.specs.Homes.{IsLowGroup};
@@ -65,7 +66,7 @@ pub fn order_of(
     layers: u32,
     groups: &[Option<Group>],
 ) -> Result<IndexSet<Group>, Memory>
-    requires limit { length groups.now ≤ 2 ^ 20 }
+    requires limit { length groups.now ≤ node_limit }
     requires low { All (IsLowGroup layers) groups.now }
     ensures { IfOk result (λ order. order.keys ≡ order_of layers groups.now) }
 {

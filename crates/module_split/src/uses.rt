@@ -2,7 +2,7 @@
 ghost use Rattle.std.specs.Prelude.{◌≡◌, ◌<◌, ◌≤◌, ◌^◌, ℕ, List, length, filter, IfOk, OnOk};
 ghost use Rattle.std.specs.List.{All};
 ghost use Rattle.word_graph.specs.Term.{taken_by};
-ghost use Rattle.word_graph.specs.Shape.{IsGraph};
+ghost use Rattle.word_graph.specs.Shape.{IsGraph, node_limit};
 ghost use Rattle.module_split.specs.Lists.{at};
 ghost use Rattle.module_split.specs.Cut.{nodes_of};
 ghost use Rattle.module_split.specs.Steps.{AddsCrossing, AddsUser, AreUsers, IsBelow, IsDistinct, crosses_in, number_at, other_than};
@@ -47,7 +47,7 @@ pub fn users_of(alloc: Global, entries: &[Entry]) -> Result<Lists, Memory>
 
 /// The nodes of each module, ascending.
 pub fn nodes_of(alloc: Global, numbers: &[Option<usize>], count: usize) -> Result<Lists, Memory>
-    requires few { length numbers.now ≤ 2 ^ 20 }
+    requires few { length numbers.now ≤ node_limit }
     requires below { All (IsBelow count) numbers.now }
     ensures count { IfOk result (λ nodes. length nodes ≡ count) }
     ensures nodes { IfOk result (λ nodes. (m : ℕ) → m < count → at nodes m ≡ nodes_of numbers.now m) }

@@ -1,93 +1,38 @@
 -- Laws of modules: one of the arithmetic class is a part that a ring circuit computes.
-use Rattle.std.proofs.Common.{◌≡◌, ◌⊎◌, inl, inr, ℕ, zero, suc, ◌+◌, ◌<◌, ◌≤◌, Bool, true, false, not, ◌&&◌, cond, eqb, List, [], ◌∷◌, ◌++◌, Option, Some, None, get_or, take, length, filter, slice_get, refl, sym, ap, ◌∙◌, subst, arith, length-append, add-one}
+use Rattle.std.proofs.Common.{◌≡◌, ℕ, ◌+◌, ◌*◌, ◌<◌, ◌≤◌, Bool, true, false, List, [], ◌∷◌, ◌++◌, Option, Some, None, get_or, take, length, slice_get, refl, sym, ap, ◌∙◌, subst, arith}
 use Rattle.std.specs.Prelude.{nat_le}
-use Rattle.std.specs.List.{All, Contains, list_all, list_any}
-use Rattle.std.proofs.lemmas.Bool.{eq-eqb, leb-true}
-use Rattle.std.proofs.lemmas.Option.{slice_get_within, get_or_from_slice_get}
-use Rattle.std.proofs.lemmas.Grind.{get_or_default_zero}
-use Rattle.std.proofs.lemmas.List.{append-nil, get_or_append_left, get_or_push, length_push, length-map, length-take-le, get_or-take, take-append-le, take_all}
-use Rattle.std.proofs.lemmas.List.Elements.{All-append, All-filter, Contains-append_left, Contains-append_right, filter_passes}
-use Rattle.std.proofs.lemmas.List.Folds.{list_any_at}
-use Rattle.std.proofs.lemmas.List.Sums.{AllPass-from_list_all, count_by-le-length, length-filter}
-use Rattle.std.proofs.lemmas.List.FromFn.{length-range_with_len, get_or-map-range_with_len, get_or-range_with_len}
+use Rattle.std.specs.List.{All, Contains, list_all}
+use Rattle.std.proofs.lemmas.Bool.{leb-true}
+use Rattle.std.proofs.lemmas.List.{length-map}
+use Rattle.std.proofs.lemmas.List.Elements.{Contains-append_right}
+use Rattle.std.proofs.lemmas.List.Sums.{AllPass-from_list_all}
+use Rattle.std.proofs.lemmas.List.FromFn.{length-range_with_len, get_or-map-range_with_len}
 use Rattle.hy_bits.specs.declared.op.Op.{Op}
 use Rattle.hy_bits.specs.declared.op.Op.TheVariants.{In, Const, Add, Sub, Mul, Neg, Trunc}
 use Rattle.hy_bits.specs.Words.{bits}
 use Rattle.word_graph.specs.declared.entry.Entry.{Entry}
 use Rattle.word_graph.specs.declared.entry.Node.{Node}
-use Rattle.word_graph.specs.Term.{arity, taken_by}
-use Rattle.word_graph.specs.Shape.{IsGraph, constant_at}
-use Rattle.word_graph.proofs.EntryLaws.{AreEntries-at, arity-three, taken_by-earlier}
+use Rattle.word_graph.specs.Shape.{IsGraph}
 use Rattle.module_split.specs.declared.homes.Group.{Group}
 use Rattle.module_split.specs.declared.homes.Home.{Home}
 use Rattle.module_split.specs.declared.homes.Home.TheVariants.{Input, Constant, Inside}
+use Rattle.module_split.specs.declared.module.Class.TheVariants.{Arithmetic, Boolean}
 use Rattle.module_split.specs.declared.module.Module.{Module}
-use Rattle.module_split.specs.Homes.{group_of, groups_of, home_at, home_of, home_of_operation, homes_of, is_arithmetic, is_ring, is_ring_operation, layer_of}
-use Rattle.module_split.specs.Cut.{below, crosses_into, entry_takes, ins_of, is_just, is_of, is_variable, module_of, nodes_of, number_in, numbers_of, order_of, outs_of, users_of}
-use Rattle.module_split.specs.Steps.{IsDistinct, and_then}
-use Rattle.module_split.proofs.HomeLaws.{home_at-place}
-use Rattle.module_split.proofs.OrderLaws.{map-at}
-use Rattle.module_split.proofs.UseLaws.{filter_below-low, filter_below-more, test_cases}
-use Rattle.module_split.proofs.CutLaws.{distinct-append, distinct-filter_below, length-homes}
+use Rattle.module_split.specs.Homes.{group_of, groups_of, home_at, home_of_operation, homes_of, is_arithmetic, is_ring, is_ring_operation, layer_of}
+use Rattle.module_split.specs.Cut.{below, class_of, ins_of, is_just, is_of, module_of, nodes_of, number_in, numbers_of, order_of, outs_of}
+use Rattle.module_split.specs.Modules.{IsPiece}
+use Rattle.module_split.proofs.PieceLaws.{IsPiece-of-nodes, and_parts, home-entry, node-of, number-home}
 use Rattle.ring_net.specs.Part.{IsOver, IsPart, IsRingModule, IsRingOperation}
-
--- ---- filters of the numbers below a number
-
-Contains-filtered : (p : ℕ → Bool) (xs : List ℕ) (x : ℕ) → Contains xs x → p x ≡ true → Contains (filter p xs) x
-Contains-filtered p [] x (k, h, e) t = absurd (omega arith)
-Contains-filtered p (y ∷ ys) x (zero, h, e) t =
-    let same : y ≡ x = e in
-    let here : p y ≡ true = ap p same ∙ t in
-    rw here (0, omega arith, e)
-Contains-filtered p (y ∷ ys) x (suc k, h, e) t = by (p y) (Contains-filtered p ys x (k, omega arith, e) t)
-  where
-    by : (b : Bool) → Contains (filter p ys) x → Contains (cond b (y ∷ filter p ys) (filter p ys)) x
-    by true c = (suc c.0, omega (arith, c.1), c.2)
-    by false c = c
-
-Contains-below : (n k : ℕ) → k < n → Contains (below n) k
-Contains-below n k h = (k, omega (arith, length-range_with_len 0 n), get_or-range_with_len 0 n k k h ∙ omega arith)
-
-filter-filter : (p q : ℕ → Bool) (xs : List ℕ) → filter p (filter q xs) ≡ filter (λ x. q x && p x) xs
-filter-filter p q [] = refl
-filter-filter p q (x ∷ xs) = by (q x) (filter-filter p q xs)
-  where
-    by : (b : Bool) → filter p (filter q xs) ≡ filter (λ y. q y && p y) xs → filter p (cond b (x ∷ filter q xs) (filter q xs)) ≡ cond (b && p x) (x ∷ filter (λ y. q y && p y) xs) (filter (λ y. q y && p y) xs)
-    by true e = ap (λ (ys : List ℕ). cond (p x) (x ∷ ys) ys) e
-    by false e = e
-
--- those that come before the one at a place are those below it
-take-filter_below : (p : ℕ → Bool) (n i : ℕ) → i < length (filter p (below n)) → take i (filter p (below n)) ≡ filter p (below (get_or (filter p (below n)) i 0))
-take-filter_below p zero i h = absurd (omega arith)
-take-filter_below p (suc n) i h =
-    let more : filter p (below (suc n)) ≡ and_then (filter p (below n)) (p n) n = ap (λ (k : ℕ). filter p (below k)) (sym (add-one n)) ∙ filter_below-more p n in
-    rw more (by (p n) (subst (λ (xs : List ℕ). i < length xs) more h) (take-filter_below p n i))
-  where
-    by : (b : Bool) → i < length (and_then (filter p (below n)) b n) → (i < length (filter p (below n)) → take i (filter p (below n)) ≡ filter p (below (get_or (filter p (below n)) i 0))) →
-        take i (and_then (filter p (below n)) b n) ≡ filter p (below (get_or (and_then (filter p (below n)) b n) i 0))
-    by false within before = rw append-nil (before (subst (λ (xs : List ℕ). i < length xs) (append-nil (filter p (below n))) within))
-    by true within before = elim (earlier_or_last i (length (filter p (below n))) (omega (arith, length_push (filter p (below n)) n, within))) [
-      | inl earlier ↦
-          let early : i ≤ length (filter p (below n)) = omega arith in
-          take-append-le i (filter p (below n)) (n ∷ []) early ∙ before earlier ∙ ap (λ (k : ℕ). filter p (below k)) (sym (get_or_append_left (filter p (below n)) (n ∷ []) 0 i earlier))
-      | inr last ↦
-          let early : i ≤ length (filter p (below n)) = omega arith in
-          take-append-le i (filter p (below n)) (n ∷ []) early ∙ take_all i (filter p (below n)) (omega arith) ∙ ap (λ (k : ℕ). filter p (below k)) (sym (get_or_push (filter p (below n)) n 0 i (sym last)))
-    ]
-      where
-        earlier_or_last : (a b : ℕ) → a < b + 1 → (a < b) ⊎ (a ≡ b)
-        earlier_or_last a b h2 = grind arith
 
 -- ---- homes and numbers
 
-is_just-some : (o : Option ℕ) (m : ℕ) → is_just o m ≡ true → o ≡ None → ⊥
-is_just-some None m t e = cc
-is_just-some (Some k) m t e = cc
+no_number : (m : ℕ) → is_just None m ≡ true → ⊥
+no_number m t = cc
 
 -- a node of the arithmetic class that lies in a module has a group of the arithmetic class
 ring_group : (layers : ℕ) (order : List Group) (h : Home) (m : ℕ) → is_just (number_in order (group_of layers h)) m ≡ true → is_arithmetic h ≡ true → (g : Group) × (h ≡ Inside g) × (g.ring ≡ true)
-ring_group layers order Input m t a = absurd (is_just-some None m t refl)
-ring_group layers order Constant m t a = absurd (is_just-some None m t refl)
+ring_group layers order Input m t a = absurd (no_number m t)
+ring_group layers order Constant m t a = absurd (no_number m t)
 ring_group layers order (Inside g) m t a = (g, refl, a)
 
 -- the group of an operation's node
@@ -104,10 +49,9 @@ ring_operation Neg first e = tt
 ring_operation Trunc first e = tt
 ring_operation _ first e = absurd (cc)
 
-and_parts : (a b : Bool) → (a && b) ≡ true → (a ≡ true) × (b ≡ true)
-and_parts true true e = (refl, refl)
-and_parts true false e = absurd (cc)
-and_parts false b e = absurd (cc)
+class-arithmetic : (b : Bool) → class_of b ≡ Arithmetic → b ≡ true
+class-arithmetic true e = refl
+class-arithmetic false e = absurd (cc)
 
 -- ---- a module of the arithmetic class
 
@@ -127,67 +71,6 @@ module _ (es : List Entry) (results : List Node) (layers m : ℕ) (graph : IsGra
   abbrev outs : List ℕ
   outs = outs_of es numbers results m
 
-  numbers-long : length numbers ≡ length es
-  numbers-long = length-map (groups_of layers es) (number_in order) ∙ length-map (homes_of layers es) (group_of layers) ∙ length-homes layers es
-
-  -- ---- the nodes
-
-  node-of : (i : ℕ) → i < length nodes → is_of numbers m (get_or nodes i 0) ≡ true
-  node-of i h = filter_passes (is_of numbers m) (below (length numbers)) i 0 h
-
-  node-low : (i : ℕ) → i < length nodes → get_or nodes i 0 < length es
-  node-low i h = omega (arith, filter_below-low (is_of numbers m) (length numbers) i 0 h, numbers-long)
-
-  -- ---- what they use
-
-  ins-are : ins ≡ filter (λ k. is_variable es k && crosses_into es numbers m k) (below (length es))
-  ins-are = filter-filter (crosses_into es numbers m) (is_variable es) (below (length es))
-
-  ins-outside : (i : ℕ) → i < length ins → is_of numbers m (get_or ins i 0) ≡ false
-  ins-outside i h = not_true (is_of numbers m (get_or ins i 0)) (and_parts (not (is_of numbers m (get_or ins i 0))) _ (filter_passes (crosses_into es numbers m) (filter (is_variable es) (below (length es))) i 0 h)).0
-    where
-      not_true : (b : Bool) → not b ≡ true → b ≡ false
-      not_true true e = absurd (cc)
-      not_true false e = refl
-
-  -- a user of a node stands among its users
-  used : (k a : ℕ) (e : Entry) → slice_get es k ≡ Some e → Contains (taken_by e) a → Contains (users_of es a) k
-  used k a e s c =
-      let takes : list_any (λ x. eqb x a) (taken_by e) ≡ true = list_any_at (λ x. eqb x a) (taken_by e) c.0 a c.1 (eq-eqb (get_or (taken_by e) c.0 a) a c.2) in
-      Contains-filtered (λ user. entry_takes (slice_get es user) a) (below (length es)) k (Contains-below (length es) k (slice_get_within es k e s)) (rw s takes)
-
-  -- what a node uses of outside is among the ins
-  crosses : (k a : ℕ) (e : Entry) → slice_get es k ≡ Some e → Contains (taken_by e) a → a < length es → constant_at es a ≡ None → is_of numbers m k ≡ true → is_of numbers m a ≡ false → Contains ins a
-  crosses k a e s c low none here outside =
-      let u = used k a e s c in
-      let some : list_any (is_of numbers m) (users_of es a) ≡ true = list_any_at (is_of numbers m) (users_of es a) u.0 k u.1 (ap (is_of numbers m) u.2 ∙ here) in
-      let variable : is_variable es a ≡ true = rw none refl in
-      Contains-filtered (crosses_into es numbers m) (filter (is_variable es) (below (length es))) a
-      (Contains-filtered (is_variable es) (below (length es)) a (Contains-below (length es) a low) variable)
-      (rw (outside, some) refl)
-
-  -- what it uses of the module is among the nodes before it
-  inner : (i a : ℕ) → i < length nodes → a < get_or nodes i 0 → is_of numbers m a ≡ true → Contains (take i nodes) a
-  inner i a h less here =
-      subst (λ (xs : List ℕ). Contains xs a) (sym (take-filter_below (is_of numbers m) (length numbers) i h))
-      (Contains-filtered (is_of numbers m) (below (get_or nodes i 0)) a (Contains-below (get_or nodes i 0) a less) here)
-
-  known : (i j : ℕ) (e : Entry) → i < length nodes → slice_get es (get_or nodes i 0) ≡ Some e → j < arity e.op → constant_at es (get_or e.args j 0) ≡ None → Contains (ins ++ take i nodes) (get_or e.args j 0)
-  known i j e h s within none =
-      let entry = AreEntries-at [] es (get_or nodes i 0) e graph.entries s in
-      let three : length e.args ≡ 3 = entry.fits.three in
-      let long : length (taken_by e) ≡ arity e.op = length-take-le (arity e.op) e.args (omega (arith, three, arity-three e.op)) in
-      let a : ℕ = get_or e.args j 0 in
-      let at_a : get_or (taken_by e) j a ≡ a = get_or-take (arity e.op) e.args j a within ∙ get_or_default_zero e.args j a (omega (arith, three, arity-three e.op)) in
-      let taken : Contains (taken_by e) a = (j, omega (arith, long), at_a) in
-      let less : a < get_or nodes i 0 = subst (λ (x : ℕ). x < get_or nodes i 0) at_a (taken_by-earlier es (get_or nodes i 0) e graph s j a (omega (arith, long))) in
-      elim (test_cases (is_of numbers m a)) [
-        | inl inside ↦ Contains-append_right ins (take i nodes) a (inner i a h less inside)
-        | inr outside ↦ Contains-append_left ins (take i nodes) a (crosses (get_or nodes i 0) a e s taken (omega (arith, less, node-low i h)) none (node-of i h) outside)
-      ]
-
-  -- ---- the class
-
   module _ (ring : list_all (λ k. is_arithmetic (home_at (homes_of layers es) k)) nodes ≡ true) where
     node-ring : (i : ℕ) (e : Entry) → i < length nodes → slice_get es (get_or nodes i 0) ≡ Some e → IsRingOperation e.op × (8 ≤ bits e.width)
     node-ring i e h s =
@@ -195,49 +78,22 @@ module _ (es : List Entry) (results : List Node) (layers m : ℕ) (graph : IsGra
         let home : Home = home_at (homes_of layers es) k in
         let so_far : List Home = homes_of layers (take k es) in
         let made : Group = record { ring = is_ring so_far e; layer = layer_of layers so_far e; region = e.region } in
-        let number : get_or numbers k None ≡ number_in order (group_of layers home) =
-        map-at (number_in order) (groups_of layers es) k None ∙ ap (number_in order) (map-at (group_of layers) (homes_of layers es) k Constant) in
-        let rg = ring_group layers order home m (ap (λ (o : Option ℕ). is_just o m) (sym number) ∙ node-of i h) (AllPass-from_list_all (λ j. is_arithmetic (home_at (homes_of layers es) j)) nodes ring i 0 h) in
-        let here : home ≡ home_of layers so_far e = home_at-place layers es k e (node-low i h) ∙ ap (home_of layers so_far) (get_or_from_slice_get es k e e s) in
-        let is : is_ring so_far e ≡ true = ap (λ (g : Group). g.ring) (made_group e.op made rg.0 (sym here ∙ rg.1)) ∙ rg.2 in
+        let numbered : is_just (number_in order (group_of layers home)) m ≡ true = ap (λ (o : Option ℕ). is_just o m) (sym (number-home es results layers m graph k)) ∙ node-of es results layers m graph i h in
+        let rg = ring_group layers order home m numbered (AllPass-from_list_all (λ j. is_arithmetic (home_at (homes_of layers es) j)) nodes ring i 0 h) in
+        let is : is_ring so_far e ≡ true = ap (λ (g : Group). g.ring) (made_group e.op made rg.0 (sym (home-entry es results layers m graph k e s) ∙ rg.1)) ∙ rg.2 in
         let parts = and_parts (nat_le 8 (bits e.width)) (is_ring_operation e.op (home_at so_far (get_or e.args 0 0))) is in
         (ring_operation e.op (home_at so_far (get_or e.args 0 0)) parts.1, leb-true 8 (bits e.width) parts.0)
 
-    over : (i : ℕ) (e : Entry) → i < length nodes → slice_get es (get_or nodes i 0) ≡ Some e → IsOver es (ins ++ take i nodes) e
-    over i e h s = let r = node-ring i e h s in record { operation = r.0; wide = r.1; known = λ j within none. known i j e h s within none }
-
     pub IsPart-of-nodes : IsPart es nodes ins outs
     IsPart-of-nodes =
+        let piece : IsPiece es nodes ins outs = IsPiece-of-nodes es results layers m graph in
         record {
-          over = over;
-          distinct = distinct-append ins nodes
-              (subst IsDistinct (sym ins-are) (distinct-filter_below (λ k. is_variable es k && crosses_into es numbers m k) (length es)))
-              (distinct-filter_below (is_of numbers m) (length numbers))
-              (λ i j hi hj same. clash (is_of numbers m (get_or ins i 0)) (ap (is_of numbers m) same ∙ node-of j hj) (ins-outside i hi));
-          stand = All-append (λ (k : ℕ). k < length es) ins nodes
-              (subst (All (λ (k : ℕ). k < length es)) (sym ins-are) (filter_below-low (λ k. is_variable es k && crosses_into es numbers m k) (length es)))
-              (subst (λ (n : ℕ). All (λ (k : ℕ). k < n) nodes) numbers-long (filter_below-low (is_of numbers m) (length numbers)));
-          among = All-filter _ (Contains (ins ++ nodes)) nodes (λ k d h. Contains-append_right ins nodes (get_or nodes k d) (k, h, get_or-same nodes k d h));
-          few = omega (arith, length-append ins nodes, few-ins, few-nodes, graph.limit);
+          over = λ i e h s. let r = node-ring i e h s in record { operation = r.0; wide = r.1; known = λ k within none. piece.known i k e h s within none };
+          distinct = piece.distinct;
+          stand = piece.stand;
+          among = λ k d h. Contains-append_right ins nodes (get_or outs k d) (piece.among k d h);
+          few = omega (arith, piece.few);
         }
-      where
-        clash : (b : Bool) → b ≡ true → b ≡ false → ⊥
-        clash true p q = cc
-        clash false p q = cc
-
-        get_or-same : (xs : List ℕ) (k d : ℕ) → k < length xs → get_or xs k (get_or xs k d) ≡ get_or xs k d
-        get_or-same [] k d h = absurd (omega arith)
-        get_or-same (x ∷ xs) zero d h = refl
-        get_or-same (x ∷ xs) (suc k) d h = get_or-same xs k d (omega arith)
-
-        few-below : (p : ℕ → Bool) (n : ℕ) → length (filter p (below n)) ≤ n
-        few-below p n = omega (arith, length-filter p (below n), count_by-le-length p (below n), length-range_with_len 0 n)
-
-        few-ins : length ins ≤ length es
-        few-ins = omega (arith, ap length ins-are, few-below (λ k. is_variable es k && crosses_into es numbers m k) (length es))
-
-        few-nodes : length nodes ≤ length es
-        few-nodes = omega (arith, few-below (is_of numbers m) (length numbers), numbers-long)
 
 -- a module of the arithmetic class is a part
 pub IsPart-of-module : (es : List Entry) (nodes ins outs : List ℕ) → IsGraph es → IsRingModule es nodes ins outs → IsPart es nodes ins outs
@@ -248,7 +104,7 @@ IsPart-of-module es nodes ins outs graph r =
     let m : ℕ = r.cut.0 in
     let within : m < length order = omega (arith, r.cut.1, length-map (below (length order)) cut_at, length-range_with_len 0 (length order)) in
     let is : cut_at m ≡ r.part = sym (get_or-map-range_with_len cut_at 0 (length order) m m r.part within (omega arith)) ∙ r.cut.2 in
-    let ring : (cut_at m).ring ≡ true = ap (λ (p : Module). p.ring) is ∙ r.ring in
+    let ring : list_all (λ k. is_arithmetic (home_at (homes_of r.layers es) k)) (nodes_of numbers m) ≡ true = class-arithmetic _ (ap (λ (p : Module). p.class) is ∙ r.ring) in
     let part : IsPart es (cut_at m).nodes (cut_at m).ins (cut_at m).outs = IsPart-of-nodes es r.results r.layers m graph ring in
     let same_nodes : (cut_at m).nodes ≡ nodes = ap (λ (p : Module). p.nodes) is ∙ r.same_nodes in
     let same_ins : (cut_at m).ins ≡ ins = ap (λ (p : Module). p.ins) is ∙ r.same_ins in

@@ -1,5 +1,5 @@
 -- The part of a graph that a ring circuit computes.
-use Rattle.std.specs.Prelude.{◌≡◌, ◌==◌, ℕ, ◌^◌, ◌<◌, ◌≤◌, true, List, [], ◌∷◌, ◌++◌, Option, Some, None, get_or, take, length, slice_get, unwrap_or}
+use Rattle.std.specs.Prelude.{◌≡◌, ◌==◌, ℕ, ◌^◌, ◌<◌, ◌≤◌, List, [], ◌∷◌, ◌++◌, Option, Some, None, get_or, take, length, slice_get, unwrap_or}
 use Rattle.std.specs.List.{All, Contains, position}
 use Rattle.hy_bits.specs.declared.op.Op.{Op}
 use Rattle.hy_bits.specs.declared.op.Op.TheVariants.{Add, Sub, Mul, Neg, Trunc}
@@ -9,12 +9,14 @@ use Rattle.word_graph.specs.declared.entry.Node.{Node}
 use Rattle.hy_bits.specs.Words.{bits}
 use Rattle.word_graph.specs.Term.{arity}
 use Rattle.word_graph.specs.Shape.{constant_at}
+use Rattle.module_split.specs.declared.module.Class.TheVariants.{Arithmetic}
 use Rattle.module_split.specs.declared.module.Module.{Module}
 use Rattle.module_split.specs.Cut.{cut_of}
 use Rattle.module_split.specs.Steps.{IsDistinct}
 use Rattle.ring_net.specs.declared.ring.RingArg.{RingArg}
 use Rattle.ring_net.specs.declared.ring.RingArg.TheVariants.{Var, Number}
 use Rattle.ring_net.specs.declared.ring.RingGate.{RingGate}
+use Rattle.ring_net.specs.Ring.{ring_limit}
 
 -- the lists are the nodes, the ins and the outs of one module of the arithmetic class, where the graph is cut for some
 -- results into at most some number of layers
@@ -23,7 +25,7 @@ pub record IsRingModule (es : List Entry) (nodes ins outs : List ℕ) : Type 0 w
   pub layers : ℕ
   pub part : Module
   pub cut : Contains (cut_of es results layers).list part
-  pub ring : part.ring ≡ true
+  pub ring : part.class ≡ Arithmetic
   pub same_nodes : part.nodes ≡ nodes
   pub same_ins : part.ins ≡ ins
   pub same_outs : part.outs ≡ outs
@@ -50,7 +52,7 @@ pub record IsPart (es : List Entry) (nodes ins outs : List ℕ) : Type 0 where
   pub distinct : IsDistinct (ins ++ nodes)
   pub stand : All (λ k. k < length es) (ins ++ nodes)
   pub among : All (Contains (ins ++ nodes)) outs
-  pub few : length (ins ++ nodes) ≤ 2 ^ 29
+  pub few : length (ins ++ nodes) ≤ ring_limit
 
 -- the variable of the node at a place, where the variables are the nodes at these places
 abbrev pub variable_of : List ℕ → ℕ → ℕ

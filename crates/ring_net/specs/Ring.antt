@@ -58,11 +58,15 @@ abbrev pub AreGates : List Width → List RingGate → Type 0
 AreGates widths [] = Unit {0}
 AreGates widths (g ∷ gs) = FitsAfter widths g × AreGates (widths ++ g.width ∷ []) gs
 
+-- the most gates, and the most places of a part
+abbrev pub ring_limit : ℕ
+ring_limit = 2 ^ 29
+
 -- a circuit
 pub record IsRing (r : Ring) : Type 0 where
   pub gates : AreGates r.ins r.gates
   pub outs : All (λ k. k < length r.ins + length r.gates) r.outs
-  pub limit : length r.gates ≤ 2 ^ 29
+  pub limit : length r.gates ≤ ring_limit
 
 -- ---- what a circuit computes
 
@@ -158,3 +162,7 @@ depths_after depths (g ∷ gs) = depths_after (depths ++ gate_depth depths g ∷
 -- the depths of all variables of a circuit
 abbrev pub depths_of : Ring → List ℕ
 depths_of r = depths_after (replicate (length r.ins) 0) r.gates
+
+-- the depth of a gate of a circuit: the most products of two variables on a path to it, itself counted
+abbrev pub depth_of_gate : Ring → ℕ → ℕ
+depth_of_gate r place = get_or (depths_of r) (length r.ins + place) 0

@@ -120,6 +120,7 @@ fn ring_of_part(
     requires { IsPart graph.now nodes.now ins.now outs.now }
     ensures ins { IfOk result (λ r. r.ins ≡ map (width_at graph.now) ins.now) }
     ensures gates { IfOk result (λ r. r.gates ≡ map (gate_at graph.now (ins.now ++ nodes.now)) nodes.now) }
+    ensures outs { IfOk result (λ r. r.outs ≡ map (variable_of (ins.now ++ nodes.now)) outs.now) }
 
     // Where the inputs of the graph fit: over the words of the nodes `ins`, the outputs are those of the nodes `outs`.
     ensures values { IfOk result (λ r. (inputs : List ℕ) → InputsFit graph.now inputs → outputs r (map (value graph.now inputs) ins.now) ≡ map (word_at (words graph.now inputs)) outs.now) }
@@ -135,8 +136,11 @@ fn ring_of_part(
 }
 
 /// The circuit of a module of the arithmetic class, which has these nodes, uses the nodes `ins` of outside, and gives the
-/// nodes `outs`: one gate for each node, in order, over the words of `ins`. Only memory can fail. Time grows with the number
-/// of nodes.
+/// nodes `outs`: one gate for each node, in order, over the words of `ins`. Time grows with the number of nodes.
+///
+/// # Errors
+///
+/// Memory ran out.
 pub fn ring_of(
     alloc: Global,
     graph: &Graph,
@@ -147,6 +151,7 @@ pub fn ring_of(
     requires { IsRingModule graph.now nodes.now ins.now outs.now }
     ensures ins { IfOk result (λ r. r.ins ≡ map (width_at graph.now) ins.now) }
     ensures gates { IfOk result (λ r. r.gates ≡ map (gate_at graph.now (ins.now ++ nodes.now)) nodes.now) }
+    ensures outs { IfOk result (λ r. r.outs ≡ map (variable_of (ins.now ++ nodes.now)) outs.now) }
 
     // Where the inputs of the graph fit: over the words of the nodes `ins`, the outputs are those of the nodes `outs`.
     ensures values { IfOk result (λ r. (inputs : List ℕ) → InputsFit graph.now inputs → outputs r (map (value graph.now inputs) ins.now) ≡ map (word_at (words graph.now inputs)) outs.now) }

@@ -164,7 +164,7 @@ constant_value-taken es t g f h =
 
 -- ---- an entry more
 
-region_of-twice : (op : Op) (region : ℕ) → region_of op (region_of op region) ≡ region_of op region
+pub region_of-twice : (op : Op) (region : ℕ) → region_of op (region_of op region) ≡ region_of op region
 region_of-twice In region = refl
 region_of-twice Const region = refl
 region_of-twice _ region = refl

@@ -1,5 +1,5 @@
 -- Laws of folding: what a term folds to fits where it stands, and has its value for all inputs.
-use Rattle.std.proofs.Common.{◌≡◌, ◌⊎◌, inl, inr, ℕ, zero, suc, ◌-◌, ◌*◌, ◌%◌, ◌^◌, ◌<◌, ◌≤◌, Bool, true, false, ◌&&◌, eqb, List, [], ◌∷◌, get_or, length, take, Option, Some, None, is_some, slice_get, unwrap_or, refl, sym, ap, ◌∙◌, subst, arith, rules}
+use Rattle.std.proofs.Common.{◌≡◌, ◌≢◌, ◌⊎◌, inl, inr, ℕ, zero, suc, ◌-◌, ◌*◌, ◌%◌, ◌^◌, ◌<◌, ◌≤◌, Bool, true, false, ◌&&◌, eqb, List, [], ◌∷◌, get_or, length, take, Option, Some, None, is_some, slice_get, unwrap_or, refl, sym, ap, ◌∙◌, subst, arith, rules}
 use Rattle.std.specs.Prelude.{bit_and, bit_or, bit_xor, nat_lt, ◌==◌, if◌then◌else◌}
 use Rattle.std.proofs.lemmas.Bool.{eqb-true}
 use Rattle.std.specs.Int.Bits.{xor_add_and, or_add_and, and_self, or_self, xor_self, xor_zero_r, xor_zero_l}
@@ -119,6 +119,7 @@ pub record IsTermFor (es : List Entry) (t u : Term) : Type 0 where
   pub fits : FitsAfter es u
   pub width : u.width ≡ t.width
   pub live : has_constants_only es u ≡ false
+  pub made : t.op ≢ In → u.op ≢ In
   pub size : term_size es u ≤ term_size es t
   pub same : (ins : List ℕ) → InputsFit es ins → value_of es ins u ≡ value_of es ins t
 
@@ -187,7 +188,7 @@ module _ (es : List Entry) (graph : IsGraph es) (w : Width) (x y z n : ℕ) wher
 
   -- it may be made as it is
   as_it_is : (op : Op) → Stands op → IsTermFor es (over op) (over op)
-  as_it_is op s = record { fits = s.fits; width = refl; live = s.live; size = omega arith; same = λ ins i. refl }
+  as_it_is op s = record { fits = s.fits; width = refl; live = s.live; made = λ h. h; size = omega arith; same = λ ins i. refl }
 
   -- its first argument stands for it
   the_first : (op : Op) → Stands op → 0 < arity op → width_at es x ≡ w → ((ins : List ℕ) → InputsFit es ins → IsWord w (value es ins x) → value es ins x ≡ value_of es ins (over op)) → IsPlaceFor es (over op) x
@@ -217,6 +218,7 @@ module _ (es : List Entry) (graph : IsGraph es) (w : Width) (x y z n : ℕ) wher
     fits = record { three = refl; used = λ k within. absurd (omega arith); unused = λ k past. no_argument m k; widths = tt; number = h };
     width = refl;
     live = refl;
+    made = λ h e. absurd (cc);
     size = omega arith;
     same = f;
   }
@@ -322,6 +324,7 @@ module _ (es : List Entry) (graph : IsGraph es) (w : Width) (x y z n : ℕ) wher
         fits = record { three = refl; used = not_used v within; unused = not_unused v; widths = width; number = refl };
         width = refl;
         live = rw open_ refl;
+        made = λ h e. absurd (cc);
         size = size;
         same = same;
       }

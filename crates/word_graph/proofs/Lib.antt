@@ -6,3 +6,5 @@ pub mod NodeLaws
 pub mod TermLaws
 pub mod LoopLaws
 pub mod GrowthLaws
+pub mod SizeLaws
+pub mod PartLaws

@@ -4,4 +4,5 @@ pub mod Shape
 pub mod Folding
 pub mod Size
 pub mod Growth
+pub mod Part
 pub mod Answer

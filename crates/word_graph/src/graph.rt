@@ -1,12 +1,13 @@
 //! Graphs.
-ghost use Rattle.std.specs.Prelude.{◌≡◌, ◌+◌, ◌<◌, ◌≤◌, ◌↔◌, [], List, ℕ, Some, false, length, slice_get, IsTrue, IfOk, IfErr, OnOk, OnErr};
+ghost use Rattle.std.specs.Prelude.{◌≡◌, ◌≢◌, ◌+◌, ◌<◌, ◌≤◌, ◌↔◌, [], List, ℕ, Some, false, length, slice_get, IsTrue, IfOk, IfErr, OnOk, OnErr};
 ghost use Rattle.std.specs.List.{Contains};
+ghost use Rattle.hy_bits.specs.declared.op.Op;
 ghost use Rattle.word_graph.specs.Term.{NumberFits, Takes, WidthsFit, argument, called_term, terms_of, width_at};
 ghost use Rattle.word_graph.specs.Meaning.{HasInput, InputsFit, IsTakenOver, term_value, value, value_over, values, words};
 ghost use Rattle.word_graph.specs.Shape.{FitsAfter, IsGraph, constant_at, has_constants_only, node_limit};
 ghost use Rattle.word_graph.specs.Folding.{reduced};
 ghost use Rattle.word_graph.specs.Answer.{AddsIfWanted, IsNodeOf, LimitIff, SharesOrAdds, Wants};
-ghost use Rattle.word_graph.specs.Growth.{Grows};
+ghost use Rattle.word_graph.specs.Growth.{Grows, GrowsIn, StopsWithin};
 ghost use Rattle.word_graph.specs.Size.{term_size};
 
 use crate::entry::{Entry, Node, Term, arity};
@@ -44,7 +45,7 @@ impl From<AllocError> for GraphFault {
 }
 
 /// The most nodes of a graph.
-const NODE_LIMIT: u32 = 1 << 20;
+pub const NODE_LIMIT: u32 = 1 << 20;
 
 /// A graph of words: a list of entries, each over earlier ones. Contracts see that list.
 #[derive(Drop)]
@@ -152,7 +153,11 @@ impl Graph {
         }
     }
 
-    /// The graph of these entries, with nothing simplified. Only memory can fail. Time grows with their number.
+    /// The graph of `entries`, with nothing simplified. Time grows with their number.
+    ///
+    /// # Errors
+    ///
+    /// Memory ran out.
     pub fn of(alloc: Global, entries: Vec<Entry>) -> Result<Graph, GraphFault>
         requires { IsGraph entries.items }
         ensures entries { IfOk result (λ g. g ≡ entries.items) }
@@ -217,6 +222,10 @@ impl Graph {
     /// The node of an operation over these nodes, whose result has the width `width`: one that stands, or a new one, of
     /// the region given, at the end of the list. An `In` takes the number of its word, a `Const` its word, and any other
     /// operation 0. What can be simplified without the inputs is. The answer is found by a look-up in constant time.
+    ///
+    /// # Errors
+    ///
+    /// `NodeLimit` where the graph holds `NODE_LIMIT` nodes and a new one is wanted; `Memory`. The graph is as before.
     pub fn node(
         &mut self,
         op: Op,
@@ -236,9 +245,11 @@ impl Graph {
         // The list: this one node more where it is wanted, whose circuit may be no greater than that of the operation.
         ensures list { OnOk result (AddsIfWanted self.old self.new (reduced self.old (called_term op width args.now number)) region) }
         ensures grows { Grows self.old self.new 1 (term_size self.old (called_term op width args.now number)) }
+        ensures made { op ≢ Op.In → GrowsIn region self.old self.new 1 (term_size self.old (called_term op width args.now number)) }
         ensures graph { IsGraph self.new }
 
         // The limit comes exactly where as many nodes stand as may, and a new one is wanted.
+        ensures stops { IfErr result (StopsWithin self.old self.new 1) }
         ensures limit { LimitIff result node_limit (Wants self.old (reduced self.old (called_term op width args.now number)) × (length self.old ≡ node_limit)) }
         ensures err { OnErr result (self.new ≡ self.old) }
     {

@@ -3,7 +3,7 @@ use Rattle.word_graph.specs.declared.entry.Entry.{Entry}
 use Rattle.word_graph.specs.Shape.{IsGraph}
 use Rattle.word_graph.specs.Term.{called_term}
 use Rattle.word_graph.proofs.NodeLaws.{Takes-fits, known_place, made_term, SharesOrAdds-grown, made-width, made-value, made-stands}
-use Rattle.word_graph.proofs.GrowthLaws.{SharesOrAdds-grows, Grows-none}
+use Rattle.word_graph.proofs.GrowthLaws.{SharesOrAdds-grows, SharesOrAdds-grows_in, Grows-none, GrowsIn-none}
 use Rattle.word_graph.proofs.graph.Graph.node.Goals as goal
 
 pub reduced-requires-clause-fits : goal.reduced-requires-clause-fits
@@ -73,3 +73,16 @@ returns-in_ok-node-in-Makes-clause-grows c =
 
 pub returns-in_err-node-in-Makes-clause-grows : goal.returns-in_err-node-in-Makes-clause-grows
 returns-in_err-node-in-Makes-clause-grows c = rw c.in_err-node-in-Makes.ensures.err (Grows-none c.args.self.now 1 _)
+
+pub returns-in-Known-clause-made : goal.returns-in-Known-clause-made
+returns-in-Known-clause-made c = λ other. GrowsIn-none c.args.region c.args.self.now 1 _
+
+pub returns-in_err-node-in-Makes-clause-made : goal.returns-in_err-node-in-Makes-clause-made
+returns-in_err-node-in-Makes-clause-made c = λ other. rw c.in_err-node-in-Makes.ensures.err (GrowsIn-none c.args.region c.args.self.now 1 _)
+
+pub returns-in_ok-node-in-Makes-clause-made : goal.returns-in_ok-node-in-Makes-clause-made
+returns-in_ok-node-in-Makes-clause-made c =
+    let graph : IsGraph c.args.self.now = subst (λ (es : List Entry). IsGraph es) c.self.view_is c.self.invariant.0 in
+    let outcome = rw (c.of_call-term.ensures, c.deref.ensures.value, c.self.view_is) at c.in-Makes.ensures in
+    let made = made_term c.args.self.now (called_term c.args.op c.args.width c.args.args.now c.args.number) c.in-Makes.made graph (Takes-fits c.args.self.now c.args.op c.args.width c.args.args.now c.args.number c.requires) outcome in
+    λ other. SharesOrAdds-grows_in c.args.self.now c.found_or_made.new.self (called_term c.args.op c.args.width c.args.args.now c.args.number) c.in-Makes.made c.args.region made other c.in_ok-node-in-Makes.ensures.list

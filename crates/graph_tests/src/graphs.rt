@@ -1,8 +1,8 @@
-use crate::{Graph, GraphFault, Node};
 use hy_bits::{Inputs, Op, Width};
 use std::alloc::Global;
 use std::process::Abort;
 use std::test::Fail;
+use word_graph::{Graph, GraphFault, Node};
 
 /// An operation, its width, how many nodes it takes, and their numbers.
 type Call = (Op, Width, usize, [u32; 3]);

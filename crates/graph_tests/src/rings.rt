@@ -1,6 +1,6 @@
-use crate::{RingArg, RingGate, RingNet, ring_of};
 use hy_bits::{Memory, Op, Width};
-use module_split::split;
+use module_split::{Class, split};
+use ring_net::{RingArg, RingGate, RingNet, ring_of};
 use std::alloc::Global;
 use std::test::Fail;
 use word_graph::{Entry, Graph, GraphFault, Node};
@@ -145,7 +145,7 @@ fn a_module_has_one_gate_for_each_node(rt: HostRuntime) -> Result<(), Fail> {
     let list = modules.list();
     assert_eq!(rt; list.len(), 2);
     let module = &list[0];
-    assert!(rt; module.ring);
+    assert!(rt; module.class == Class::Arithmetic);
     let nodes = module.nodes.as_slice();
     let ins = module.ins.as_slice();
     let outs = module.outs.as_slice();

@@ -1,5 +1,5 @@
-use crate::{Modules, Places, split};
 use hy_bits::{Op, Width};
+use module_split::{Class, LAYER_LIMIT, Modules, Places, split};
 use std::alloc::{AllocError, Global};
 use std::process::Abort;
 use std::test::Fail;
@@ -42,7 +42,10 @@ fn add_places(
 fn text_of(alloc: Global, modules: &Modules) -> Result<String, AllocError> {
     let mut text = String::new(alloc);
     for module in modules.list() {
-        let class = if module.ring { "R" } else { "G" };
+        let class = match module.class {
+            Class::Arithmetic => "R",
+            Class::Boolean => "G",
+        };
         let head = format!(in alloc; "{class} {} {}:", module.layer, module.region)?;
         add_places(alloc, &mut text, &head, &module.nodes)?;
         add_places(alloc, &mut text, ", in", &module.ins)?;
@@ -69,7 +72,7 @@ fn cut(
     grow(rt, &mut graph, calls)?;
     let count = graph.entries().len();
     assert!(rt; results.iter().all(|node| (node.index as usize) < count));
-    assert!(rt; 0 < layers && layers <= 64);
+    assert!(rt; 0 < layers && layers <= LAYER_LIMIT);
     let modules = split(alloc, &graph, results, layers)?;
     Ok(text_of(alloc, &modules)?)
 }
