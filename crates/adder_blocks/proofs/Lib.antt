@@ -1,4 +1,3 @@
-pub mod NetLaws
 pub mod BitSteps
 pub mod TreeLaws
 pub mod TopLaws

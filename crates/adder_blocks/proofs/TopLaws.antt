@@ -10,7 +10,7 @@ use Rattle.gate_net.specs.Literal.{complement_of}
 use Rattle.gate_net.specs.Circuit.{Circuit, Stands}
 use Rattle.gate_net.specs.Meaning.{value, level}
 use Rattle.gate_net.proofs.MeaningLaws.{value-complement, level-complement, Stands-complement}
-use Rattle.adder_blocks.specs.Spelled.{values, spelled, AllStand, AllWithin}
+use Rattle.gate_net.specs.Spelled.{values, spelled, AllStand, AllWithin}
 use Rattle.adder_blocks.specs.Steps.{TopComplemented}
 
 AllStand-parts : (n : Circuit) (low : List Lit) (top : Lit) → AllStand n (low ++ top ∷ []) → AllStand n low × Stands n top

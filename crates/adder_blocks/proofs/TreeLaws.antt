@@ -10,7 +10,7 @@ use Rattle.gate_net.specs.Circuit.{Circuit}
 use Rattle.gate_net.specs.Meaning.{value}
 use Rattle.hy_bits.specs.Bits.{number}
 use Rattle.hy_bits.proofs.BitLaws.{number-append, number-take}
-use Rattle.adder_blocks.specs.Spelled.{values, spelled}
+use Rattle.gate_net.specs.Spelled.{values, spelled}
 
 -- both halves of a length of at least 2 are within half of its power of two
 pub halve : (n k : ℕ) → n ≤ 2 ^ k → 2 ≤ n → (j : ℕ) × (k ≡ suc j) × (n - n / 2 ≤ 2 ^ j) × (n / 2 ≤ 2 ^ j)

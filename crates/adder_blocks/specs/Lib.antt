@@ -1,4 +1,3 @@
-pub mod Spelled
 pub mod Steps
 pub mod Cells
 pub mod Shifts

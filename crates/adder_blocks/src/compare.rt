@@ -3,34 +3,18 @@ ghost use Rattle.std.specs.Prelude.{◌≡◌, ◌==◌, ℕ, ◌+◌, ◌-◌, 
 ghost use Rattle.std.specs.List.{list_all};
 ghost use Rattle.hy_bits.specs.Bits.{xor, next_carry, carry_out, bitwise};
 ghost use Rattle.hy_bits.specs.Words.{is_less_s};
+ghost use Rattle.hy_bits.specs.Sizes.{adder_size};
 ghost use Rattle.gate_net.specs.Circuit.{Stands};
 ghost use Rattle.gate_net.specs.Meaning.{value, level};
 ghost use Rattle.gate_net.specs.Growth.{Grows, StopsWithin};
-ghost use Rattle.adder_blocks.specs.Spelled.{values, spelled, AllStand, AllWithin};
-ghost use Rattle.adder_blocks.specs.Steps.{IsOfThree, LevelOfThree, TopComplemented};
+ghost use Rattle.gate_net.specs.Spelled.{values, spelled, AllStand, AllWithin};
+ghost use Rattle.adder_blocks.specs.Steps.{TopComplemented};
 
+use crate::adder::majority;
 use crate::lookahead::lookahead_carry;
 use crate::sums::complements;
 use gate_net::{Form, GateFault, Lit, Net};
 use std::alloc::{AllocError, Global};
-
-/// The carry of a place of a sum: 1 where at least two of the three are. One AND.
-pub(crate) fn majority(net: &mut Net, a: Lit, b: Lit, carry: Lit) -> Result<Lit, GateFault>
-    requires first { Stands net.old a }
-    requires second { Stands net.old b }
-    requires third { Stands net.old carry }
-    ensures grows { Grows net.old net.new 4 1 }
-    ensures stops { IfErr result (StopsWithin net.old net.new 4) }
-    ensures stands { IfOk result (Stands net.new) }
-    ensures value { IfOk result (IsOfThree next_carry net.old net.new a b carry) }
-    ensures level { IfOk result (LevelOfThree 1 net.old net.new a b carry) }
-{
-    let first = net.xor(a, carry)?;
-    let second = net.xor(b, carry)?;
-    let both = net.and(first, second)?;
-    let next = net.xor(carry, both)?;
-    Ok(next)
-}
 
 /// Whether all literals are 1: a tree of ANDs by halves.
 pub(crate) fn all_of(net: &mut Net, ls: &[Lit]) -> Result<Lit, GateFault>
@@ -88,8 +72,8 @@ fn carry_of_sum(
     ensures value { IfOk result (λ r. (bits : List Bool) → value net.new bits r ≡ carry_out (value net.old bits start) (values net.old bits a.now) (values net.old bits b.now)) }
     ensures depth { IfOk result (λ r. form ≡ Form.Shallow → (d k : ℕ) → length a.now ≤ 2 ^ k → AllWithin net.old d a.now → AllWithin net.old d b.now → level net.old start ≤ d → level net.new r ≤ d + 1 + k) }
     ensures ands { form ≡ Form.Compact → Grows net.old net.new (4 * length a.now) (length a.now) }
-    ensures gates { (k : ℕ) → length a.now ≤ 2 ^ k → Grows net.old net.new (8 * (length a.now * (1 + k))) (8 * (length a.now * (1 + k))) }
-    ensures stops { IfErr result (λ e. (k : ℕ) → length a.now ≤ 2 ^ k → StopsWithin net.old net.new (8 * (length a.now * (1 + k))) e) }
+    ensures gates { (k : ℕ) → length a.now ≤ 2 ^ k → Grows net.old net.new (adder_size (length a.now) k) (adder_size (length a.now) k) }
+    ensures stops { IfErr result (λ e. (k : ℕ) → length a.now ≤ 2 ^ k → StopsWithin net.old net.new (adder_size (length a.now) k) e) }
 {
     match form {
         Form::Compact => {
@@ -103,7 +87,11 @@ fn carry_of_sum(
     }
 }
 
-/// Whether the word `a` is less than the word `b` of the same length from 1 to 64.
+/// Whether the word `a` is less than the word `b` of the same length from 1 on: the carry that their difference leaves.
+///
+/// # Errors
+///
+/// `GateLimit` where the net has reached its budget, and `Memory`. The net may have more gates.
 pub fn less_u(
     alloc: Global,
     net: &mut Net,
@@ -126,8 +114,8 @@ pub fn less_u(
     // The gates, also after an Err: in the compact form an AND for each place, and in either form at
     // most eight gates a place for each level of the tree and one more.
     ensures ands { form ≡ Form.Compact → Grows net.old net.new (4 * length a.now) (length a.now) }
-    ensures gates { (k : ℕ) → length a.now ≤ 2 ^ k → Grows net.old net.new (8 * (length a.now * (1 + k))) (8 * (length a.now * (1 + k))) }
-    ensures stops { IfErr result (λ e. (k : ℕ) → length a.now ≤ 2 ^ k → StopsWithin net.old net.new (8 * (length a.now * (1 + k))) e) }
+    ensures gates { (k : ℕ) → length a.now ≤ 2 ^ k → Grows net.old net.new (adder_size (length a.now) k) (adder_size (length a.now) k) }
+    ensures stops { IfErr result (λ e. (k : ℕ) → length a.now ≤ 2 ^ k → StopsWithin net.old net.new (adder_size (length a.now) k) e) }
 {
     let complements = complements(alloc, b)?;
     let at_least = carry_of_sum(alloc, net, form, a, &complements, Lit::TRUE)?;
@@ -146,8 +134,11 @@ fn with_top_complemented(alloc: Global, ls: &[Lit]) -> Result<Vec<Lit>, AllocErr
     Ok(out)
 }
 
-/// Whether the word `a` is less than the word `b` of the same length from 1 to 64, by their signed
-/// readings.
+/// Whether the word `a` is less than the word `b` of the same length from 1 on, by their signed readings.
+///
+/// # Errors
+///
+/// `GateLimit` where the net has reached its budget, and `Memory`. The net may have more gates.
 pub fn less_s(
     alloc: Global,
     net: &mut Net,
@@ -170,8 +161,8 @@ pub fn less_s(
     // The gates, also after an Err: in the compact form an AND for each place, and in either form at
     // most eight gates a place for each level of the tree and one more.
     ensures ands { form ≡ Form.Compact → Grows net.old net.new (4 * length a.now) (length a.now) }
-    ensures gates { (k : ℕ) → length a.now ≤ 2 ^ k → Grows net.old net.new (8 * (length a.now * (1 + k))) (8 * (length a.now * (1 + k))) }
-    ensures stops { IfErr result (λ e. (k : ℕ) → length a.now ≤ 2 ^ k → StopsWithin net.old net.new (8 * (length a.now * (1 + k))) e) }
+    ensures gates { (k : ℕ) → length a.now ≤ 2 ^ k → Grows net.old net.new (adder_size (length a.now) k) (adder_size (length a.now) k) }
+    ensures stops { IfErr result (λ e. (k : ℕ) → length a.now ≤ 2 ^ k → StopsWithin net.old net.new (adder_size (length a.now) k) e) }
 {
     let first = with_top_complemented(alloc, a)?;
     let second = with_top_complemented(alloc, b)?;
@@ -198,7 +189,11 @@ fn agreements(alloc: Global, net: &mut Net, a: &[Lit], b: &[Lit]) -> Result<Vec<
     Ok(out)
 }
 
-/// Whether two words of one length from 1 to 64 are equal. Both forms are the same: a tree of ANDs.
+/// Whether two words of one length from 1 on are equal. Both forms are the same: a tree of ANDs.
+///
+/// # Errors
+///
+/// `GateLimit` where the net has reached its budget, and `Memory`. The net may have more gates.
 pub fn equal(
     alloc: Global,
     net: &mut Net,

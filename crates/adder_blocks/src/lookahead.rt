@@ -1,15 +1,17 @@
-//! Carries by look-ahead: a tree of parallel prefixes.
+//! Carries by look-ahead: the prefix adder, which is a tree of parallel prefixes by halves (Sklansky), and a tree for the last carry alone.
 ghost use Rattle.std.specs.Prelude.{◌≡◌, ℕ, ◌+◌, ◌-◌, ◌*◌, ◌^◌, ◌≤◌, ◌<◌, Bool, List, ◌∷◌, ◌&&◌, length, map, take, IfOk, IfErr};
 ghost use Rattle.std.specs.List.{All};
 ghost use Rattle.hy_bits.specs.Bits.{xor, next_carry, sum_bit, sum_bits, carry_out, bitwise, bitwise_three};
+ghost use Rattle.hy_bits.specs.Sizes.{adder_size};
 ghost use Rattle.gate_net.specs.Circuit.{Stands};
 ghost use Rattle.gate_net.specs.Meaning.{value, level};
 ghost use Rattle.gate_net.specs.Growth.{Grows, StopsWithin};
-ghost use Rattle.adder_blocks.specs.Spelled.{values, AllStand, AllWithin};
-ghost use Rattle.adder_blocks.specs.Cells.{CellStands, CellWithin, carried, carries, carries_into};
+ghost use Rattle.gate_net.specs.Spelled.{values, AllStand, AllWithin};
+ghost use Rattle.adder_blocks.specs.Cells.{CellStands, CellWithin, carried, carries, carries_out, carry_after};
 
+use crate::adder::majority;
 use gate_net::{GateFault, Lit, Net};
-use std::alloc::Global;
+use std::alloc::{AllocFailed, Global};
 
 /// What a place of a sum, or several places one after another, make of the carry `c` into them:
 /// `generate ^ (propagate & c)`.
@@ -79,27 +81,20 @@ fn prefixes(alloc: Global, net: &mut Net, cells: &[Cell]) -> Result<Vec<Cell>, G
     Ok(done)
 }
 
-/// The cells of the lowest `count` places of `a + b`.
-fn places(
-    alloc: Global,
-    net: &mut Net,
-    a: &[Lit],
-    b: &[Lit],
-    count: usize,
-) -> Result<Vec<Cell>, GateFault>
+/// The cells of the places of `a + b`.
+fn places(alloc: Global, net: &mut Net, a: &[Lit], b: &[Lit]) -> Result<Vec<Cell>, GateFault>
     requires first { AllStand net.old a.now }
     requires second { AllStand net.old b.now }
-    requires within_first { count ≤ length a.now }
-    requires within_second { count ≤ length b.now }
+    requires same_length { length a.now ≡ length b.now }
     ensures stands { IfOk result (λ r. All (CellStands net.new) r.items) }
-    ensures same { IfOk result (λ r. length r.items ≡ count) }
-    ensures value { IfOk result (λ r. (bits : List Bool) (s : Bool) → map (carried net.new bits s) r.items ≡ bitwise (λ x y. next_carry x y s) (take count (values net.old bits a.now)) (take count (values net.old bits b.now))) }
+    ensures same { IfOk result (λ r. length r.items ≡ length a.now) }
+    ensures value { IfOk result (λ r. (bits : List Bool) (s : Bool) → map (carried net.new bits s) r.items ≡ bitwise (λ x y. next_carry x y s) (values net.old bits a.now) (values net.old bits b.now)) }
     ensures level { IfOk result (λ r. (d : ℕ) → AllWithin net.old d a.now → AllWithin net.old d b.now → All (CellWithin net.new d) r.items) }
-    ensures grows { Grows net.old net.new (2 * count) count }
-    ensures stops { IfErr result (StopsWithin net.old net.new (2 * count)) }
+    ensures grows { Grows net.old net.new (2 * length a.now) (length a.now) }
+    ensures stops { IfErr result (StopsWithin net.old net.new (2 * length a.now)) }
 {
     let mut out = Vec::new(alloc);
-    for place in 0..count {
+    for place in 0..a.len() {
         let propagate = net.xor(a[place], b[place])?;
         let generate = net.and(a[place], b[place])?;
         out.push(Cell {
@@ -110,29 +105,85 @@ fn places(
     Ok(out)
 }
 
-/// The carry `start`, and then what each of the cells makes of it.
-fn carries_from(
+/// The cell of the lowest place of `a + b`, with the carry `start` into it: it makes the carry into the next place, whatever comes in,
+/// so that cells after it cost one AND each.
+fn first_place(net: &mut Net, a: Lit, b: Lit, start: Lit) -> Result<Cell, GateFault>
+    requires first { Stands net.old a }
+    requires second { Stands net.old b }
+    requires carry { Stands net.old start }
+    ensures stands { IfOk result (CellStands net.new) }
+    ensures value { IfOk result (λ r. (bits : List Bool) (c : Bool) → carried net.new bits c r ≡ next_carry (value net.old bits a) (value net.old bits b) (value net.old bits start)) }
+    ensures level { IfOk result (λ r. (d : ℕ) → level net.old a ≤ d → level net.old b ≤ d → level net.old start ≤ d → CellWithin net.new d r) }
+    ensures grows { Grows net.old net.new 4 1 }
+    ensures stops { IfErr result (StopsWithin net.old net.new 4) }
+{
+    let generate = majority(net, a, b, start)?;
+    Ok(Cell {
+        generate,
+        propagate: Lit::FALSE,
+    })
+}
+
+/// The cells of the places of `a + b`, with the carry `start` into the lowest one: whatever comes in, they make the sum's carries.
+fn cells(
     alloc: Global,
     net: &mut Net,
-    cells: &[Cell],
+    a: &[Lit],
+    b: &[Lit],
     start: Lit,
-) -> Result<Vec<Lit>, GateFault>
-    requires first { All (CellStands net.old) cells.now }
-    requires second { Stands net.old start }
-    ensures stands { IfOk result (λ r. AllStand net.new r.items) }
-    ensures value { IfOk result (λ r. (bits : List Bool) → values net.new bits r.items ≡ value net.old bits start ∷ map (carried net.old bits (value net.old bits start)) cells.now) }
-    ensures level { IfOk result (λ r. (p : ℕ) → level net.old start ≤ p → All (CellWithin net.old p) cells.now → AllWithin net.new (p + 1) r.items) }
-    ensures grows { Grows net.old net.new (2 * length cells.now) (length cells.now) }
-    ensures stops { IfErr result (StopsWithin net.old net.new (2 * length cells.now)) }
+) -> Result<Vec<Cell>, GateFault>
+    requires first { AllStand net.old a.now }
+    requires second { AllStand net.old b.now }
+    requires carry { Stands net.old start }
+    requires same_length { length a.now ≡ length b.now }
+    ensures stands { IfOk result (λ r. All (CellStands net.new) r.items) }
+    ensures same { IfOk result (λ r. length r.items ≡ length a.now) }
+    ensures value { IfOk result (λ r. (bits : List Bool) (c : Bool) → carries net.new bits r.items c ≡ carries_out (value net.old bits start) (values net.old bits a.now) (values net.old bits b.now)) }
+    ensures level { IfOk result (λ r. (d : ℕ) → AllWithin net.old d a.now → AllWithin net.old d b.now → level net.old start ≤ d → All (CellWithin net.new d) r.items) }
+    ensures grows { Grows net.old net.new (4 * length a.now) (length a.now) }
+    ensures stops { IfErr result (StopsWithin net.old net.new (4 * length a.now)) }
+{
+    let mut cells = Vec::new(alloc);
+    if a.is_empty() {
+        return Ok(cells);
+    }
+    let first = first_place(net, a[0], b[0], start)?;
+    let rest = places(alloc, net, &a[1..], &b[1..])?;
+    cells.push(first)?;
+    cells.extend_from_slice(&rest)?;
+    Ok(cells)
+}
+
+/// The carry `start`, and then what each of the cells makes where no carry comes in.
+fn carries_of(alloc: Global, start: Lit, cells: &[Cell]) -> Result<Vec<Lit>, AllocFailed<Lit>>
+    ensures { IfOk result (λ r. r.items ≡ start ∷ map (λ x. x.generate) cells.now) }
 {
     let mut out = Vec::new(alloc);
     out.push(start)?;
     for cell in cells {
-        let taken = net.and(cell.propagate, start)?;
-        let carry = net.xor(cell.generate, taken)?;
-        out.push(carry)?;
+        out.push(cell.generate)?;
     }
     Ok(out)
+}
+
+/// All of the cells, one after another, as one: a tree by halves.
+fn joined(net: &mut Net, cells: &[Cell]) -> Result<Cell, GateFault>
+    requires stand { All (CellStands net.old) cells.now }
+    requires some { 0 < length cells.now }
+    ensures stands { IfOk result (CellStands net.new) }
+    ensures value { IfOk result (λ r. (bits : List Bool) (c : Bool) → carried net.new bits c r ≡ carry_after net.old bits cells.now c) }
+    ensures level { IfOk result (λ r. (p k : ℕ) → length cells.now ≤ 2 ^ k → All (CellWithin net.old p) cells.now → CellWithin net.new (p + k) r) }
+    ensures grows { Grows net.old net.new (3 * (length cells.now - 1)) (2 * (length cells.now - 1)) }
+    ensures stops { IfErr result (StopsWithin net.old net.new (3 * (length cells.now - 1))) }
+{
+    if cells.len() == 1 {
+        return Ok(cells[0]);
+    }
+    let (low, high) = cells.split_at(cells.len() - cells.len() / 2);
+    let first = joined(net, low)?;
+    let second = joined(net, high)?;
+    let both = compose(net, second, first)?;
+    Ok(both)
 }
 
 /// The sum bits of all places, whose carries stand in `into`.
@@ -179,12 +230,13 @@ pub(crate) fn lookahead_sum(
     ensures stands { IfOk result (λ r. AllStand net.new r.items) }
     ensures value { IfOk result (λ r. (bits : List Bool) → values net.new bits r.items ≡ sum_bits (value net.old bits start) (values net.old bits a.now) (values net.old bits b.now)) }
     ensures level { IfOk result (λ r. (d k : ℕ) → length a.now ≤ 2 ^ k → AllWithin net.old d a.now → AllWithin net.old d b.now → level net.old start ≤ d → AllWithin net.new (d + 1 + k) r.items) }
-    ensures grows { (k : ℕ) → length a.now ≤ 2 ^ k → Grows net.old net.new (8 * (length a.now * (1 + k))) (8 * (length a.now * (1 + k))) }
-    ensures stops { IfErr result (λ e. (k : ℕ) → length a.now ≤ 2 ^ k → StopsWithin net.old net.new (8 * (length a.now * (1 + k))) e) }
+    ensures grows { (k : ℕ) → length a.now ≤ 2 ^ k → Grows net.old net.new (adder_size (length a.now) k) (adder_size (length a.now) k) }
+    ensures stops { IfErr result (λ e. (k : ℕ) → length a.now ≤ 2 ^ k → StopsWithin net.old net.new (adder_size (length a.now) k) e) }
 {
-    let cells = places(alloc, net, a, b, a.len() - 1)?;
+    let top = a.len() - 1;
+    let cells = cells(alloc, net, &a[..top], &b[..top], start)?;
     let fronts = prefixes(alloc, net, &cells)?;
-    let into = carries_from(alloc, net, &fronts, start)?;
+    let into = carries_of(alloc, start, &fronts)?;
     let out = sum_places(alloc, net, a, b, &into)?;
     Ok(out)
 }
@@ -205,13 +257,10 @@ pub(crate) fn lookahead_carry(
     ensures stands { IfOk result (Stands net.new) }
     ensures value { IfOk result (λ r. (bits : List Bool) → value net.new bits r ≡ carry_out (value net.old bits start) (values net.old bits a.now) (values net.old bits b.now)) }
     ensures level { IfOk result (λ r. (d k : ℕ) → length a.now ≤ 2 ^ k → AllWithin net.old d a.now → AllWithin net.old d b.now → level net.old start ≤ d → level net.new r ≤ d + 1 + k) }
-    ensures grows { (k : ℕ) → length a.now ≤ 2 ^ k → Grows net.old net.new (8 * (length a.now * (1 + k))) (8 * (length a.now * (1 + k))) }
-    ensures stops { IfErr result (λ e. (k : ℕ) → length a.now ≤ 2 ^ k → StopsWithin net.old net.new (8 * (length a.now * (1 + k))) e) }
+    ensures grows { (k : ℕ) → length a.now ≤ 2 ^ k → Grows net.old net.new (adder_size (length a.now) k) (adder_size (length a.now) k) }
+    ensures stops { IfErr result (λ e. (k : ℕ) → length a.now ≤ 2 ^ k → StopsWithin net.old net.new (adder_size (length a.now) k) e) }
 {
-    let cells = places(alloc, net, a, b, a.len())?;
-    let fronts = prefixes(alloc, net, &cells)?;
-    let whole = fronts[fronts.len() - 1];
-    let taken = net.and(whole.propagate, start)?;
-    let carry = net.xor(whole.generate, taken)?;
-    Ok(carry)
+    let cells = cells(alloc, net, a, b, start)?;
+    let whole = joined(net, &cells)?;
+    Ok(whole.generate)
 }

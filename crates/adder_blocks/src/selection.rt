@@ -3,7 +3,7 @@ ghost use Rattle.std.specs.Prelude.{◌≡◌, ℕ, ◌+◌, ◌*◌, ◌≤◌,
 ghost use Rattle.gate_net.specs.Circuit.{Stands};
 ghost use Rattle.gate_net.specs.Meaning.{value, level};
 ghost use Rattle.gate_net.specs.Growth.{Grows, StopsWithin};
-ghost use Rattle.adder_blocks.specs.Spelled.{values, AllStand, AllWithin};
+ghost use Rattle.gate_net.specs.Spelled.{values, AllStand, AllWithin};
 ghost use Rattle.adder_blocks.specs.Steps.{chosen, IsOfThree, LevelOfThree};
 
 use gate_net::{Form, GateFault, Lit, Net};
@@ -28,6 +28,10 @@ fn choose_bit(net: &mut Net, c: Lit, x: Lit, y: Lit) -> Result<Lit, GateFault>
 
 /// The word `a` where `c` is 1, else `b`, bit by bit. Both forms are the same: an AND and two more
 /// gates a bit.
+///
+/// # Errors
+///
+/// `GateLimit` where the net has reached its budget, and `Memory`. The net may have more gates.
 pub fn choose(
     alloc: Global,
     net: &mut Net,

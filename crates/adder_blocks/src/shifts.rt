@@ -1,10 +1,11 @@
 //! Shifts by a count that is itself a word.
 ghost use Rattle.std.specs.Prelude.{◌≡◌, ◌≤◌, ◌<◌, ℕ, ◌+◌, ◌-◌, ◌*◌, ◌^◌, Bool, List, length, nat_lt, IfOk, IfErr};
 ghost use Rattle.hy_bits.specs.Bits.{number};
+ghost use Rattle.hy_bits.specs.Sizes.{adder_size};
 ghost use Rattle.gate_net.specs.Circuit.{Stands};
 ghost use Rattle.gate_net.specs.Meaning.{value};
 ghost use Rattle.gate_net.specs.Growth.{Grows, StopsWithin};
-ghost use Rattle.adder_blocks.specs.Spelled.{values, spelled, AllStand};
+ghost use Rattle.gate_net.specs.Spelled.{values, spelled, AllStand};
 ghost use Rattle.adder_blocks.specs.Shifts.{moved_by, shifted_by};
 
 use crate::compare::all_of;
@@ -35,8 +36,8 @@ pub fn shift(
     ensures value { IfOk result (λ r. (bits : List Bool) → spelled net.new bits r.items ≡ shifted_by op (length a.now) (spelled net.old bits a.now) (spelled net.old bits count.now)) }
 
     // The gates, also after an Err.
-    ensures gates { (k : ℕ) → length a.now ≤ 2 ^ k → Grows net.old net.new (8 * (length a.now * (1 + k)) + 4 * length count.now) (8 * (length a.now * (1 + k)) + 4 * length count.now) }
-    ensures stops { IfErr result (λ e. (k : ℕ) → length a.now ≤ 2 ^ k → StopsWithin net.old net.new (8 * (length a.now * (1 + k)) + 4 * length count.now) e) }
+    ensures gates { (k : ℕ) → length a.now ≤ 2 ^ k → Grows net.old net.new (adder_size (length a.now) k + 4 * length count.now) (adder_size (length a.now) k + 4 * length count.now) }
+    ensures stops { IfErr result (λ e. (k : ℕ) → length a.now ≤ 2 ^ k → StopsWithin net.old net.new (adder_size (length a.now) k + 4 * length count.now) e) }
 {
     match op {
         Op::Shl => {
@@ -146,8 +147,8 @@ fn shifted(
     requires width { length a.now ≤ 64 }
     ensures stands { IfOk result (λ r. AllStand net.new r.items) }
     ensures value { IfOk result (λ r. (bits : List Bool) → values net.new bits r.items ≡ moved_by up (value net.old bits fill) (spelled net.old bits count.now) (values net.old bits a.now)) }
-    ensures gates { (k : ℕ) → length a.now ≤ 2 ^ k → Grows net.old net.new (8 * (length a.now * (1 + k)) + 4 * length count.now) (8 * (length a.now * (1 + k)) + 4 * length count.now) }
-    ensures stops { IfErr result (λ e. (k : ℕ) → length a.now ≤ 2 ^ k → StopsWithin net.old net.new (8 * (length a.now * (1 + k)) + 4 * length count.now) e) }
+    ensures gates { (k : ℕ) → length a.now ≤ 2 ^ k → Grows net.old net.new (adder_size (length a.now) k + 4 * length count.now) (adder_size (length a.now) k + 4 * length count.now) }
+    ensures stops { IfErr result (λ e. (k : ℕ) → length a.now ≤ 2 ^ k → StopsWithin net.old net.new (adder_size (length a.now) k + 4 * length count.now) e) }
 {
     let (low, high) = count.split_at(stages(a.len(), count.len()));
     let near = moved_by_count(alloc, net, up, a, low, fill)?;

@@ -1,36 +1,18 @@
 //! Sums, differences and negatives.
 ghost use Rattle.std.specs.Prelude.{◌≡◌, ℕ, ◌+◌, ◌-◌, ◌*◌, ◌^◌, ◌≤◌, ◌<◌, Bool, List, length, map, IfOk, IfErr};
-ghost use Rattle.hy_bits.specs.Bits.{sum_bit, next_carry, sum_bits};
+ghost use Rattle.hy_bits.specs.Bits.{sum_bits};
 ghost use Rattle.hy_bits.specs.Words.{word_add, word_sub, word_neg};
+ghost use Rattle.hy_bits.specs.Sizes.{adder_size};
 ghost use Rattle.gate_net.specs.Literal.{complement_of};
 ghost use Rattle.gate_net.specs.Circuit.{Stands};
 ghost use Rattle.gate_net.specs.Meaning.{value, level};
 ghost use Rattle.gate_net.specs.Growth.{Grows, StopsWithin};
-ghost use Rattle.adder_blocks.specs.Spelled.{values, spelled, AllStand, AllWithin};
-ghost use Rattle.adder_blocks.specs.Steps.{IsOfThree, LevelOfThree};
+ghost use Rattle.gate_net.specs.Spelled.{values, spelled, AllStand, AllWithin};
 
+use crate::adder::full_adder;
 use crate::lookahead::lookahead_sum;
 use gate_net::{Form, GateFault, Lit, Net};
 use std::alloc::{AllocError, Global};
-
-/// One place of a sum: the lowest bit of `a + b + carry`, and the carry into the next place. One AND.
-fn full_adder(net: &mut Net, a: Lit, b: Lit, carry: Lit) -> Result<(Lit, Lit), GateFault>
-    requires first { Stands net.old a }
-    requires second { Stands net.old b }
-    requires third { Stands net.old carry }
-    ensures grows { Grows net.old net.new 5 1 }
-    ensures stops { IfErr result (StopsWithin net.old net.new 5) }
-    ensures stands { IfOk result (λ r. Stands net.new r.0 × Stands net.new r.1) }
-    ensures sum { IfOk result (λ r. IsOfThree sum_bit net.old net.new a b carry r.0) }
-    ensures carry { IfOk result (λ r. IsOfThree next_carry net.old net.new a b carry r.1) }
-{
-    let first = net.xor(a, carry)?;
-    let second = net.xor(b, carry)?;
-    let sum = net.xor(first, b)?;
-    let both = net.and(first, second)?;
-    let next = net.xor(carry, both)?;
-    Ok((sum, next))
-}
 
 /// The bits of `a + b` and a carry into the lowest place, with one AND for each place but the highest:
 /// the carry out of that one isn't made.
@@ -90,8 +72,8 @@ fn add(
     ensures value { IfOk result (λ r. (bits : List Bool) → values net.new bits r.items ≡ sum_bits (value net.old bits start) (values net.old bits a.now) (values net.old bits b.now)) }
     ensures depth { IfOk result (λ r. form ≡ Form.Shallow → (d k : ℕ) → length a.now ≤ 2 ^ k → AllWithin net.old d a.now → AllWithin net.old d b.now → level net.old start ≤ d → AllWithin net.new (d + 1 + k) r.items) }
     ensures ands { form ≡ Form.Compact → Grows net.old net.new (5 * length a.now) (length a.now - 1) }
-    ensures gates { (k : ℕ) → length a.now ≤ 2 ^ k → Grows net.old net.new (8 * (length a.now * (1 + k))) (8 * (length a.now * (1 + k))) }
-    ensures stops { IfErr result (λ e. (k : ℕ) → length a.now ≤ 2 ^ k → StopsWithin net.old net.new (8 * (length a.now * (1 + k))) e) }
+    ensures gates { (k : ℕ) → length a.now ≤ 2 ^ k → Grows net.old net.new (adder_size (length a.now) k) (adder_size (length a.now) k) }
+    ensures stops { IfErr result (λ e. (k : ℕ) → length a.now ≤ 2 ^ k → StopsWithin net.old net.new (adder_size (length a.now) k) e) }
 {
     match form {
         Form::Compact => {
@@ -105,7 +87,11 @@ fn add(
     }
 }
 
-/// The sum of two words of one length from 1 to 64, modulo two to the length.
+/// The sum of two words of one length from 1 on, modulo two to the length: a ripple adder or a prefix adder.
+///
+/// # Errors
+///
+/// `GateLimit` where the net has reached its budget, and `Memory`. The net may have more gates.
 pub fn sum(
     alloc: Global,
     net: &mut Net,
@@ -129,14 +115,18 @@ pub fn sum(
     // The gates, also after an Err: in the compact form one AND less than places, and in either form
     // at most eight gates a place for each level of the tree and one more.
     ensures ands { form ≡ Form.Compact → Grows net.old net.new (5 * length a.now) (length a.now - 1) }
-    ensures gates { (k : ℕ) → length a.now ≤ 2 ^ k → Grows net.old net.new (8 * (length a.now * (1 + k))) (8 * (length a.now * (1 + k))) }
-    ensures stops { IfErr result (λ e. (k : ℕ) → length a.now ≤ 2 ^ k → StopsWithin net.old net.new (8 * (length a.now * (1 + k))) e) }
+    ensures gates { (k : ℕ) → length a.now ≤ 2 ^ k → Grows net.old net.new (adder_size (length a.now) k) (adder_size (length a.now) k) }
+    ensures stops { IfErr result (λ e. (k : ℕ) → length a.now ≤ 2 ^ k → StopsWithin net.old net.new (adder_size (length a.now) k) e) }
 {
     let out = add(alloc, net, form, a, b, Lit::FALSE)?;
     Ok(out)
 }
 
-/// The difference of two words of one length from 1 to 64, modulo two to the length.
+/// The difference of two words of one length from 1 on, modulo two to the length: the sum with the complement and one.
+///
+/// # Errors
+///
+/// `GateLimit` where the net has reached its budget, and `Memory`. The net may have more gates.
 pub fn difference(
     alloc: Global,
     net: &mut Net,
@@ -160,15 +150,19 @@ pub fn difference(
     // The gates, also after an Err: in the compact form one AND less than places, and in either form
     // at most eight gates a place for each level of the tree and one more.
     ensures ands { form ≡ Form.Compact → Grows net.old net.new (5 * length a.now) (length a.now - 1) }
-    ensures gates { (k : ℕ) → length a.now ≤ 2 ^ k → Grows net.old net.new (8 * (length a.now * (1 + k))) (8 * (length a.now * (1 + k))) }
-    ensures stops { IfErr result (λ e. (k : ℕ) → length a.now ≤ 2 ^ k → StopsWithin net.old net.new (8 * (length a.now * (1 + k))) e) }
+    ensures gates { (k : ℕ) → length a.now ≤ 2 ^ k → Grows net.old net.new (adder_size (length a.now) k) (adder_size (length a.now) k) }
+    ensures stops { IfErr result (λ e. (k : ℕ) → length a.now ≤ 2 ^ k → StopsWithin net.old net.new (adder_size (length a.now) k) e) }
 {
     let complements = complements(alloc, b)?;
     let out = add(alloc, net, form, a, &complements, Lit::TRUE)?;
     Ok(out)
 }
 
-/// Zero minus a word of a length from 1 to 64, modulo two to the length.
+/// Zero minus a word of a length from 1 on, modulo two to the length.
+///
+/// # Errors
+///
+/// `GateLimit` where the net has reached its budget, and `Memory`. The net may have more gates.
 pub fn negative(alloc: Global, net: &mut Net, form: Form, a: &[Lit]) -> Result<Vec<Lit>, GateFault>
     requires stand { AllStand net.old a.now }
     requires some { 0 < length a.now }
@@ -184,8 +178,8 @@ pub fn negative(alloc: Global, net: &mut Net, form: Form, a: &[Lit]) -> Result<V
     // The gates, also after an Err: in the compact form one AND less than places, and in either form
     // at most eight gates a place for each level of the tree and one more.
     ensures ands { form ≡ Form.Compact → Grows net.old net.new (5 * length a.now) (length a.now - 1) }
-    ensures gates { (k : ℕ) → length a.now ≤ 2 ^ k → Grows net.old net.new (8 * (length a.now * (1 + k))) (8 * (length a.now * (1 + k))) }
-    ensures stops { IfErr result (λ e. (k : ℕ) → length a.now ≤ 2 ^ k → StopsWithin net.old net.new (8 * (length a.now * (1 + k))) e) }
+    ensures gates { (k : ℕ) → length a.now ≤ 2 ^ k → Grows net.old net.new (adder_size (length a.now) k) (adder_size (length a.now) k) }
+    ensures stops { IfErr result (λ e. (k : ℕ) → length a.now ≤ 2 ^ k → StopsWithin net.old net.new (adder_size (length a.now) k) e) }
 {
     let zeros = vec![in alloc; Lit::FALSE; a.len()]?;
     let out = difference(alloc, net, form, &zeros, a)?;

@@ -11,7 +11,7 @@ use Rattle.hy_bits.proofs.BitLaws.{bit-lt, length-sum_bits, length-bitwise, numb
 use Rattle.gate_net.specs.declared.literal.Lit.{Lit}
 use Rattle.gate_net.specs.Circuit.{Circuit}
 use Rattle.gate_net.specs.Meaning.{value}
-use Rattle.adder_blocks.specs.Spelled.{spelled}
+use Rattle.gate_net.specs.Spelled.{spelled}
 use Rattle.adder_blocks.proofs.TreeLaws.{spelled-take}
 use Rattle.adder_blocks.proofs.BitSteps.{sum_bits-more}
 use Rattle.div_blocks.specs.Division.{left_of, changed_bits}

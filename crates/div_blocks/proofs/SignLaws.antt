@@ -3,6 +3,7 @@ use Rattle.std.proofs.Common.{◌≡◌, ℕ, zero, suc, ◌+◌, ◌-◌, ◌*�
 use Rattle.std.proofs.Math.Nat.{mod-eq_of_lt, add-mul-mod_self_left, le-mul_of_pos_right}
 use Rattle.std.proofs.lemmas.List.{take_all, take_more, length-take-le, length-map}
 use Rattle.std.proofs.lemmas.Bool.Decides.{nat_tests}
+use Rattle.hy_bits.specs.Sizes.{divider_size}
 use Rattle.hy_bits.specs.Bits.{bit, number, xor}
 use Rattle.hy_bits.specs.Words.{is_negative, word_div_u, word_div_s, word_rem_u, word_rem_s}
 use Rattle.hy_bits.proofs.BitLaws.{number-lt, number-lt_of, number-not, pow_two-suc, is_negative-push}
@@ -11,7 +12,7 @@ use Rattle.gate_net.specs.declared.literal.Lit.{Lit}
 use Rattle.gate_net.specs.Circuit.{Circuit}
 use Rattle.gate_net.specs.Meaning.{value}
 use Rattle.gate_net.proofs.MeaningLaws.{value-true}
-use Rattle.adder_blocks.specs.Spelled.{values, spelled}
+use Rattle.gate_net.specs.Spelled.{values, spelled}
 use Rattle.div_blocks.proofs.RowLaws.{div-some, rem-some}
 use Rattle.div_blocks.specs.Division.{signed_by, quotient_of, remainder_of}
 
@@ -256,13 +257,16 @@ room-more j k =
     let square : (j + 4) * (j + 4) ≤ (j + 4) * (j + 4) * (1 + k) = le-mul_of_pos_right ((j + 4) * (j + 4)) (omega arith) in
     omega (arith, square)
 
-pub signed-gates : (n k : ℕ) → 2 ≤ n → n ≤ 2 ^ k → 3 * (n * n) + 17 * n ≤ 8 * (n * n * (1 + k))
-signed-gates zero k two small = absurd (omega arith)
-signed-gates (suc zero) k two small = absurd (omega arith)
-signed-gates (suc (suc zero)) k two small = room-two k (log-of k small)
-signed-gates (suc (suc (suc zero))) k two small = room-three k (log-of-more k small)
-signed-gates (suc (suc (suc (suc j)))) k two small = subst (λ (n : ℕ). 3 * (n * n) + 17 * n ≤ 8 * (n * n * (1 + k))) (omega arith) (room-more j k)
+room : (n k : ℕ) → 2 ≤ n → n ≤ 2 ^ k → 3 * (n * n) + 17 * n ≤ 8 * (n * n * (1 + k))
+room zero k two small = absurd (omega arith)
+room (suc zero) k two small = absurd (omega arith)
+room (suc (suc zero)) k two small = room-two k (log-of k small)
+room (suc (suc (suc zero))) k two small = room-three k (log-of-more k small)
+room (suc (suc (suc (suc j)))) k two small = subst (λ (n : ℕ). 3 * (n * n) + 17 * n ≤ 8 * (n * n * (1 + k))) (omega arith) (room-more j k)
 
--- and have fewer Ands
-pub signed-ands : (n k : ℕ) → 2 ≤ n → n ≤ 2 ^ k → n * n + 7 * n ≤ 8 * (n * n * (1 + k))
-signed-ands n k two small = omega (arith, signed-gates n k two small)
+pub signed-gates : (n k : ℕ) → 2 ≤ n → n ≤ 2 ^ k → 3 * (n * n) + 17 * n ≤ divider_size n k
+signed-gates n k two small = omega (arith, room n k two small)
+
+-- and the Ands are within the stated number
+pub signed-ands : (n : ℕ) → n * n + 7 * n ≤ 2 * (n * n) + 8 * n
+signed-ands n = omega arith

@@ -5,7 +5,7 @@ use Rattle.hy_bits.specs.Words.{word_neg, word_div_u, word_div_s, word_rem_u, wo
 use Rattle.gate_net.specs.declared.literal.Lit.{Lit}
 use Rattle.gate_net.specs.Circuit.{Circuit}
 use Rattle.gate_net.specs.Meaning.{value}
-use Rattle.adder_blocks.specs.Spelled.{spelled}
+use Rattle.gate_net.specs.Spelled.{spelled}
 
 -- the bits in which xs and the difference of xs and ys differ
 abbrev pub changed_bits : List Bool → List Bool → List Bool

@@ -1,7 +1,8 @@
-//! Quotients and remainders of words by either reading.
+//! Quotients and remainders of words by either reading, by a restoring divider.
 ghost use Rattle.std.specs.Prelude.{◌≡◌, ℕ, ◌+◌, ◌-◌, ◌*◌, ◌^◌, ◌≤◌, ◌<◌, Bool, true, false, List, length, IfOk, IfErr};
+ghost use Rattle.hy_bits.specs.Sizes.{divider_size};
 ghost use Rattle.gate_net.specs.Growth.{Grows, StopsWithin};
-ghost use Rattle.adder_blocks.specs.Spelled.{spelled, AllStand};
+ghost use Rattle.gate_net.specs.Spelled.{spelled, AllStand};
 ghost use Rattle.div_blocks.specs.Division.{quotient_of, remainder_of};
 
 use crate::rows::divide_rows;
@@ -38,10 +39,14 @@ fn divide_signed(
     Ok((quotient, remainder))
 }
 
-/// The quotient and the remainder of two words of one length from 1 to 64, by their signed or their unsigned
-/// readings. A quotient is rounded toward zero, and a remainder has the sign of `a`. By zero the quotient is all
+/// The quotient and the remainder of two words of one length from 1 on, by their signed or their unsigned
+/// readings: a restoring divider. A quotient is rounded toward zero, and a remainder has the sign of `a`. By zero the quotient is all
 /// ones, or 1 where a signed `a` is negative, and the remainder is `a`; the least number by -1 is itself, with
 /// nothing left. Both forms are the same.
+///
+/// # Errors
+///
+/// `GateLimit` where the net has reached its budget, and `Memory`. The net may have more gates.
 pub fn divide(
     alloc: Global,
     net: &mut Net,
@@ -62,12 +67,12 @@ pub fn divide(
     ensures remainder { IfOk result (λ r. (bits : List Bool) → spelled net.new bits r.1.items ≡ remainder_of signed (length a.now) (spelled net.old bits a.now) (spelled net.old bits b.now)) }
 
     // The gates, also after an Err: at a length of n at most n^2 + 3n - 1 ANDs for the unsigned readings and
-    // n^2 + 7n for the signed ones, and at most eight gates for each two places and each level of a tree and one
-    // more.
+    // n^2 + 7n for the signed ones; and together with at most eight gates for each two places and each level of a
+    // tree and one more, at most 2n^2 + 8n ANDs at every length.
     ensures ands_unsigned { signed ≡ false → Grows net.old net.new (3 * (length a.now * length a.now) + 5 * length a.now - 1) (length a.now * length a.now + 3 * length a.now - 1) }
     ensures ands_signed { Grows net.old net.new (3 * (length a.now * length a.now) + 17 * length a.now) (length a.now * length a.now + 7 * length a.now) }
-    ensures gates { (k : ℕ) → length a.now ≤ 2 ^ k → Grows net.old net.new (8 * (length a.now * length a.now * (1 + k))) (8 * (length a.now * length a.now * (1 + k))) }
-    ensures stops { IfErr result (λ e. (k : ℕ) → length a.now ≤ 2 ^ k → StopsWithin net.old net.new (8 * (length a.now * length a.now * (1 + k))) e) }
+    ensures gates { (k : ℕ) → length a.now ≤ 2 ^ k → Grows net.old net.new (divider_size (length a.now) k) (2 * (length a.now * length a.now) + 8 * length a.now) }
+    ensures stops { IfErr result (λ e. (k : ℕ) → length a.now ≤ 2 ^ k → StopsWithin net.old net.new (divider_size (length a.now) k) e) }
 {
     if signed && a.len() > 1 {
         let out = divide_signed(alloc, net, a, b)?;

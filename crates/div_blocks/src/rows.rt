@@ -5,7 +5,7 @@ ghost use Rattle.hy_bits.specs.Words.{word_div_u, word_rem_u};
 ghost use Rattle.gate_net.specs.Circuit.{Stands};
 ghost use Rattle.gate_net.specs.Meaning.{value};
 ghost use Rattle.gate_net.specs.Growth.{Grows, StopsWithin};
-ghost use Rattle.adder_blocks.specs.Spelled.{values, spelled, AllStand};
+ghost use Rattle.gate_net.specs.Spelled.{values, spelled, AllStand};
 ghost use Rattle.adder_blocks.specs.Steps.{IsOfThree};
 ghost use Rattle.div_blocks.specs.Division.{changed_bits, left_of, SaysBelow};
 

@@ -4,7 +4,7 @@ ghost use Rattle.hy_bits.specs.Bits.{xor};
 ghost use Rattle.gate_net.specs.Circuit.{Stands};
 ghost use Rattle.gate_net.specs.Meaning.{value};
 ghost use Rattle.gate_net.specs.Growth.{Grows, StopsWithin};
-ghost use Rattle.adder_blocks.specs.Spelled.{values, spelled, AllStand};
+ghost use Rattle.gate_net.specs.Spelled.{values, spelled, AllStand};
 ghost use Rattle.adder_blocks.specs.Steps.{IsOfThree};
 ghost use Rattle.div_blocks.specs.Division.{signed_by};
 

@@ -6,3 +6,9 @@ pub mod ArenaLaws
 pub mod WalkLaws
 pub mod NetLaws
 pub mod CallerLaws
+pub mod RankLaws
+pub mod ReachLaws
+pub mod NormalLaws
+pub mod CountLaws
+pub mod LevelLaws
+pub mod NetLevelLaws

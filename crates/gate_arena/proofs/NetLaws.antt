@@ -110,11 +110,11 @@ AreOrdered-by w (g ∷ gs) each = (
 
 module _ (n : Circuit) (order : List ℕ) (closed : IsClosed n order) (once : AreOnce order) where
   -- the wires of the constant and of inputs stay
-  new_wire-low : (w : ℕ) → w ≤ n.ins → new_wire n order w ≡ w
+  pub new_wire-low : (w : ℕ) → w ≤ n.ins → new_wire n order w ≡ w
   new_wire-low w h = rw (le-leb w n.ins h) refl
 
   -- a gate's wire is that of its place
-  new_wire-gate : (i k : ℕ) → i < length order → get_or order i 0 ≡ k → new_wire n order (1 + n.ins + k) ≡ 1 + n.ins + i
+  pub new_wire-gate : (i k : ℕ) → i < length order → get_or order i 0 ≡ k → new_wire n order (1 + n.ins + k) ≡ 1 + n.ins + i
   new_wire-gate i k h here =
       let number : number_of order k ≡ Some i = number_of-at order k i h here (λ j less e. once-apart order j i once less h (e ∙ sym here)) in
       let place : 1 + n.ins + k - (1 + n.ins) ≡ k = omega arith in
@@ -139,13 +139,13 @@ module _ (n : Circuit) (order : List ℕ) (closed : IsClosed n order) (once : Ar
       let p = place-in i k h c in
       omega (arith, ap (new_wire n order) here ∙ new_wire-gate p.0 k (omega (arith, p.1)) p.2, p.1)
 
-  wire-new : (l : Lit) → wire_of (new_lit n order l) ≡ new_wire n order (wire_of l)
+  pub wire-new : (l : Lit) → wire_of (new_lit n order l) ≡ new_wire n order (wire_of l)
   wire-new l = halved (new_wire n order (wire_of l)) (l.code % 2) (omega arith)
     where
       halved : (x p : ℕ) → p < 2 → (2 * x + p) / 2 ≡ x
       halved x p h = omega arith
 
-  parity-new : (l : Lit) → (new_lit n order l).code % 2 ≡ l.code % 2
+  pub parity-new : (l : Lit) → (new_lit n order l).code % 2 ≡ l.code % 2
   parity-new l = left_over (new_wire n order (wire_of l)) (l.code % 2) (omega arith)
     where
       left_over : (x p : ℕ) → p < 2 → (2 * x + p) % 2 ≡ p
@@ -155,7 +155,7 @@ module _ (n : Circuit) (order : List ℕ) (closed : IsClosed n order) (once : Ar
   new_lit-done i l h is = omega (arith, wire-new l, new_wire-done i (wire_of l) h is)
 
   -- the gate at a place of the order
-  abbrev no_gate : Gate
+  abbrev pub no_gate : Gate
   no_gate = And (record { code = 0 }) (record { code = 0 })
 
   new_gate-at : (i : ℕ) (h : i < length order) → new_gate_at n order (get_or order i 0) ≡ new_gate n order (closed.each i h).gate
@@ -165,13 +165,13 @@ module _ (n : Circuit) (order : List ℕ) (closed : IsClosed n order) (once : Ar
   new_gate-uses i (And a b) h left right = and_gate-uses (1 + n.ins + i) (new_lit n order a) (new_lit n order b) (new_lit-done i a h left) (new_lit-done i b h right)
   new_gate-uses i (Xor a b) h left right = xor_gate-uses (1 + n.ins + i) (new_lit n order a) (new_lit n order b) (new_lit-done i a h left) (new_lit-done i b h right)
 
-  long : length (map (new_gate_at n order) order) ≡ length order
+  pub long : length (map (new_gate_at n order) order) ≡ length order
   long = length-map order (new_gate_at n order)
 
-  gate-there : (i : ℕ) (h : i < length order) → get_or (map (new_gate_at n order) order) i no_gate ≡ new_gate n order (closed.each i h).gate
+  pub gate-there : (i : ℕ) (h : i < length order) → get_or (map (new_gate_at n order) order) i no_gate ≡ new_gate n order (closed.each i h).gate
   gate-there i h = get_or-map (new_gate_at n order) order i 0 no_gate h ∙ new_gate-at i h
 
-  ordered : AreOrdered (1 + n.ins) (map (new_gate_at n order) order)
+  pub ordered : AreOrdered (1 + n.ins) (map (new_gate_at n order) order)
   ordered = AreOrdered-by (1 + n.ins) (map (new_gate_at n order) order) (λ i h.
       let inside : i < length order = omega (arith, h, long) in
       let c = closed.each i inside in

@@ -35,7 +35,7 @@ taken-low wires g x u (inr e) = omega (arith, right-low wires g u, e)
 -- ---- gates in order
 
 module _ (n : Circuit) (ordered : AreOrdered (1 + n.ins) n.gates) where
-  earlier : (wire x : ℕ) → Takes n wire x → x < wire
+  pub earlier : (wire x : ℕ) → Takes n wire x → x < wire
   earlier wire x t =
       let here : get_or n.gates t.place t.gate ≡ t.gate = get_or_from_slice_get n.gates t.place t.gate t.gate t.stands in
       let uses : UsesBelow (1 + n.ins + t.place) t.gate = subst (UsesBelow (1 + n.ins + t.place)) here (AreOrdered-at (1 + n.ins) n.gates t.place t.gate ordered (slice_get_within n.gates t.place t.gate t.stands)) in
@@ -53,7 +53,7 @@ module _ (n : Circuit) (ordered : AreOrdered (1 + n.ins) n.gates) where
 
 module _ (n : Circuit) (g : Gate) (within : AreWithin n) (uses : UsesBelow (wire_count n) g) where
   -- what an old gate takes it took before
-  took : (wire x : ℕ) → wire < wire_count n → Takes (with_gate n g) wire x → Takes n wire x
+  pub took : (wire x : ℕ) → wire < wire_count n → Takes (with_gate n g) wire x → Takes n wire x
   took wire x h t = record {
     place = t.place;
     gate = t.gate;
@@ -113,7 +113,7 @@ module _ (n : Circuit) (v : ℕ) (by : Lit) where
   ]
 
   -- a gate takes what it took, or `by` where it took v
-  takes_cases : (wire x : ℕ) → Takes (replaced v by n) wire x → (Takes n wire x × (x ≢ v)) ⊎ (Takes n wire v × (x ≡ wire_of by))
+  pub takes_cases : (wire x : ℕ) → Takes (replaced v by n) wire x → (Takes n wire x × (x ≢ v)) ⊎ (Takes n wire v × (x ≡ wire_of by))
   takes_cases wire x t =
       let w = was_gate n v by t.place t.gate t.stands in
       side w t.takes
@@ -154,7 +154,7 @@ module _ (n : Circuit) (v : ℕ) (by : Lit) where
 -- ---- paths that end
 
 -- a way on
-DependsOn-then : (n : Circuit) (v x wire : ℕ) → DependsOn n v wire → Takes n v x → DependsOn n x wire
+pub DependsOn-then : (n : Circuit) (v x wire : ℕ) → DependsOn n v wire → Takes n v x → DependsOn n x wire
 DependsOn-then n v x _ (itself wire e) t = through wire x (subst (λ (w : ℕ). Takes n w x) (sym e) t) (itself x refl)
 DependsOn-then n v x _ (through wire y u d) t = through wire y u (DependsOn-then n v x y d t)
 

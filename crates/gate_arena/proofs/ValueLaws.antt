@@ -1,8 +1,8 @@
 -- Laws of values: each wire carries exactly one bit, and what keeps it.
-use Rattle.std.proofs.Common.{◌≡◌, ◌≢◌, ◌⊎◌, inl, inr, ℕ, zero, suc, ◌+◌, ◌-◌, ◌*◌, ◌%◌, ◌<◌, ◌≤◌, Bool, true, false, not, ◌&&◌, cond, eqb, List, Some, get_or, map, slice_get, refl, sym, ap, ◌∙◌, subst, arith}
+use Rattle.std.proofs.Common.{◌≡◌, ◌≢◌, ◌⊎◌, inl, inr, ℕ, zero, suc, ◌+◌, ◌-◌, ◌*◌, ◌%◌, ◌<◌, ◌≤◌, Bool, true, false, not, ◌&&◌, cond, eqb, List, Some, get_or, length, map, slice_get, refl, sym, ap, ◌∙◌, subst, arith}
 use Rattle.std.proofs.lemmas.Bool.{cases_eq, cases_lt}
 use Rattle.std.proofs.lemmas.Option.{slice_get_within, slice_get-get_or, slice_get-map}
-use Rattle.std.proofs.lemmas.List.{get_or-map}
+use Rattle.std.proofs.lemmas.List.{get_or-map, length-map}
 use Rattle.gate_net.specs.declared.literal.Lit.{Lit}
 use Rattle.gate_net.specs.declared.literal.Gate.{Gate}
 use Rattle.gate_net.specs.declared.literal.Gate.TheVariants.{And, Xor}
@@ -162,6 +162,7 @@ module _ (n : Circuit) (g : Gate) (bits : List Bool) where
 
 pub KeepsValues-with_gate : (n : Circuit) (g : Gate) → KeepsValues n (with_gate n g)
 KeepsValues-with_gate n g = record {
+  count = refl;
   literals = λ bits l b h. Carries-with_gate n g bits (wire_of l) (bit_of l b) h;
   outs = λ bits i d b within h. Carries-with_gate n g bits (wire_of (get_or n.outs i d)) (bit_of (get_or n.outs i d) b) h;
 }
@@ -262,11 +263,20 @@ KeepsValues-replaced n v by l is even free equal =
     let same : (bits : List Bool) (b : Bool) → Carries n bits v b → HasValue n bits by b =
     λ bits b c. equal bits b (subst (λ (w : ℕ). Carries n bits w (bit_of l b)) (sym is) (subst (Carries n bits v) (sym (ap (λ (p : ℕ). cond (eqb p 1) (not b) b) even)) c)) in
     record {
+      count = length-map n.outs (replaced_lit v by);
       literals = λ bits m b h. Carries-replaced n v by bits free (same bits) (wire_of m) (bit_of m b) h;
       outs = λ bits i d b within h.
           let there : get_or (map (replaced_lit v by) n.outs) i d ≡ replaced_lit v by (get_or n.outs i d) = get_or-map (replaced_lit v by) n.outs i d d within in
           subst (λ (m : Lit). HasValue (replaced v by n) bits m b) (sym there) (HasValue-replaced n v by bits free (same bits) (get_or n.outs i d) b h);
     }
+
+-- one change after another
+pub KeepsValues-then : (a b c : Circuit) → KeepsValues a b → KeepsValues b c → KeepsValues a c
+KeepsValues-then a b c f g = record {
+  count = g.count ∙ f.count;
+  literals = λ bits l x h. g.literals bits l x (f.literals bits l x h);
+  outs = λ bits i d x within h. g.outs bits i d x (omega (arith, f.count)) (f.outs bits i d x within h);
+}
 
 -- ---- the value of a literal
 

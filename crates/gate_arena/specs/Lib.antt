@@ -4,3 +4,5 @@ pub mod Values
 pub mod Change
 pub mod Order
 pub mod Inside
+pub mod Normal
+pub mod Levels

@@ -34,6 +34,7 @@ HasValuesOf n l m = (bits : List Bool) (b : Bool) → HasValue n bits l b → Ha
 
 -- every literal keeps its value, and so does every output
 pub record KeepsValues (old new : Circuit) : Type 0 where
+  pub count : length new.outs ≡ length old.outs
   pub literals : (bits : List Bool) (l : Lit) (b : Bool) → HasValue old bits l b → HasValue new bits l b
   pub outs : (bits : List Bool) (i : ℕ) (d : Lit) (b : Bool) → i < length old.outs → HasValue old bits (get_or old.outs i d) b → HasValue new bits (get_or new.outs i d) b
 

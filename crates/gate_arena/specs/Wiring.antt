@@ -7,6 +7,7 @@ use Rattle.gate_net.specs.declared.literal.Lit.{Lit}
 use Rattle.gate_net.specs.declared.literal.Gate.{Gate}
 use Rattle.gate_net.specs.declared.literal.Gate.TheVariants.{And, Xor}
 use Rattle.gate_net.specs.Literal.{wire_of}
+pub use Rattle.gate_net.specs.Literal.{left_of, right_of}
 use Rattle.gate_net.specs.Circuit.{Circuit}
 
 -- the gates as they now stand, with inputs, outputs and budget, and for each wire the input places that hold it. A gate may
@@ -17,15 +18,7 @@ pub record Wiring : Type 0 where
 
 -- ---- gates
 
--- the inputs of a gate: left is side 0, and right is side 1
-abbrev pub left_of : Gate → Lit
-left_of (And a b) = a
-left_of (Xor a b) = a
-
-abbrev pub right_of : Gate → Lit
-right_of (And a b) = b
-right_of (Xor a b) = b
-
+-- the input of a gate at a side: left is side 0, and right is side 1
 abbrev pub input_of : Gate → ℕ → Lit
 input_of g side = if side == 0 then left_of g else right_of g
 

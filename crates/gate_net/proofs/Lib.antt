@@ -5,3 +5,5 @@ pub mod FoldLaws
 pub mod CircuitLaws
 pub mod AnswerLaws
 pub mod LoopLaws
+pub mod ListLaws
+pub mod SpelledLaws

@@ -4,3 +4,5 @@ pub mod Meaning
 pub mod Shape
 pub mod Growth
 pub mod Answer
+pub mod Paths
+pub mod Spelled

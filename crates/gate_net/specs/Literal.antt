@@ -33,3 +33,12 @@ plain_xor_gate a b = if nat_lt a.code b.code then Xor a b else Xor b a
 -- the gate that an Xor of two literals wants: the complements move to the result, and the inputs ascend by code
 abbrev pub xor_gate : Lit → Lit → Gate
 xor_gate a b = plain_xor_gate (plain_of a) (plain_of b)
+
+-- the inputs of a gate
+abbrev pub left_of : Gate → Lit
+left_of (And a b) = a
+left_of (Xor a b) = a
+
+abbrev pub right_of : Gate → Lit
+right_of (And a b) = b
+right_of (Xor a b) = b

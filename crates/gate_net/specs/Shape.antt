@@ -16,13 +16,21 @@ abbrev pub AreOrdered : ℕ → List Gate → Type 0
 AreOrdered wires [] = Unit {0}
 AreOrdered wires (g ∷ gs) = UsesBelow wires g × AreOrdered (suc wires) gs
 
+-- the most inputs, and the most gates, of any circuit
+abbrev pub variable_limit : ℕ
+variable_limit = 2 ^ 29
+
+-- the most gates of a circuit that a program of hycc keeps
+abbrev pub gate_limit : ℕ
+gate_limit = 2 ^ 22
+
 -- the parts make a circuit
 pub record IsCircuit (n : Circuit) : Type 0 where
   pub ordered : AreOrdered (1 + n.ins) n.gates
   pub outs : All (Stands n) n.outs
   pub gates : length n.gates ≤ n.budget
-  pub ins_limit : n.ins ≤ 2 ^ 29
-  pub budget_limit : n.budget ≤ 2 ^ 29
+  pub ins_limit : n.ins ≤ variable_limit
+  pub budget_limit : n.budget ≤ variable_limit
 
 -- the gate has no constant input and not one variable twice, its inputs ascend by code, and an Xor's are no complements
 abbrev pub IsNormalGate : Gate → Type 0

@@ -4,7 +4,7 @@ ghost use Rattle.std.specs.List.{All, Contains};
 ghost use Rattle.gate_net.specs.Literal.{AreApart, and_gate, plain_xor_gate, xor_gate};
 ghost use Rattle.gate_net.specs.Circuit.{Circuit, Stands, wire_count};
 ghost use Rattle.gate_net.specs.Meaning.{xor, as_bits, as_levels, reading, gate_reading, wires, value, level, and_count, depth_of};
-ghost use Rattle.gate_net.specs.Shape.{IsCircuit, IsNormal, IsTableOf, UsesBelow};
+ghost use Rattle.gate_net.specs.Shape.{IsCircuit, IsNormal, IsTableOf, UsesBelow, variable_limit};
 ghost use Rattle.gate_net.specs.Growth.{Grows, StopsWithin};
 ghost use Rattle.gate_net.specs.Answer.{Wants, AddsIfWanted, LimitIff, SharesOrAdds, IsOutputOf, FoldsAnd, FoldsXor};
 
@@ -12,6 +12,12 @@ use crate::literal::{Gate, Lit};
 use indexmap::IndexMap;
 use std::alloc::{AllocError, AllocFailed, Global};
 use std::marker::Model;
+
+/// The most inputs, and the most gates, of a net.
+pub const VARIABLE_LIMIT: u32 = 1 << 29;
+
+/// The most gates of a circuit that a program of hycc keeps.
+pub const GATE_LIMIT: u32 = 1 << 22;
 
 /// How a block is built: with few ANDs, or with few ANDs on every path.
 #[derive(Clone, Copy, PartialEq, Eq, Debug)]
@@ -104,7 +110,7 @@ fn folded_xor(a: Lit, b: Lit) -> Option<Lit>
 
 /// The first place of each gate.
 fn table_of(alloc: Global, gates: &[Gate]) -> Result<IndexMap<Gate, u32>, GateFault>
-    requires { length gates.now ≤ 2 ^ 29 }
+    requires { length gates.now ≤ variable_limit }
     ensures table { IfOk result (λ t. IsTableOf gates.now t.entries) }
     ensures memory { IfErr result (λ e. e ≡ GateFault.Memory) }
 {
@@ -179,8 +185,8 @@ fn gate_level(variables: &[u32], gate: Gate) -> u32
 impl Net {
     /// A net of `ins` inputs with no gates and no outputs.
     pub fn new(alloc: Global, ins: u32, budget: u32) -> Net
-        requires few_ins { ins ≤ 2 ^ 29 }
-        requires low_budget { budget ≤ 2 ^ 29 }
+        requires few_ins { ins ≤ variable_limit }
+        requires low_budget { budget ≤ variable_limit }
         ensures { result ≡ record { ins = ins; gates = []; outs = []; budget = budget } }
     {
         Net {
@@ -192,8 +198,11 @@ impl Net {
         }
     }
 
-    /// The net of these parts, with nothing folded and nothing shared. Only memory can fail. Time grows
-    /// with the number of gates.
+    /// The net of these parts, with nothing folded and nothing shared. Time grows with the number of gates.
+    ///
+    /// # Errors
+    ///
+    /// Memory ran out.
     pub fn of(
         alloc: Global,
         ins: u32,
@@ -247,7 +256,7 @@ impl Net {
         self.budget
     }
 
-    /// Replaces the outputs.
+    /// Replaces the outputs by `outs`.
     pub fn set_outs(&mut self, outs: Vec<Lit>)
         requires { All (Stands self.old) outs.items }
         ensures { self.new ≡ record self.old { outs = outs.items } }
@@ -255,10 +264,10 @@ impl Net {
         self.outs = outs;
     }
 
-    /// The same net with another budget.
+    /// The same net with the budget `budget`.
     pub fn with_budget(self, budget: u32) -> Net
         requires room { length self.gates ≤ budget }
-        requires limit { budget ≤ 2 ^ 29 }
+        requires limit { budget ≤ variable_limit }
         ensures { result ≡ record self { budget = budget } }
     {
         let mut net = self;
@@ -268,6 +277,10 @@ impl Net {
 
     /// The And of two literals. A gate is made only where neither is constant, their variables differ
     /// and no equal gate stands; the answer is found by a look-up in constant time.
+    ///
+    /// # Errors
+    ///
+    /// `GateLimit` with the budget where it is reached and a new gate is wanted; `Memory`. The net is as before.
     pub fn and(&mut self, a: Lit, b: Lit) -> Result<Lit, GateFault>
         requires left { Stands self.old a }
         requires right { Stands self.old b }
@@ -321,6 +334,10 @@ impl Net {
     }
 
     /// The Xor of two literals, as `and`. Complements of the arguments move to the answer.
+    ///
+    /// # Errors
+    ///
+    /// Those of `and`, and the net is as before.
     pub fn xor(&mut self, a: Lit, b: Lit) -> Result<Lit, GateFault>
         requires left { Stands self.old a }
         requires right { Stands self.old b }
@@ -376,15 +393,31 @@ impl Net {
         count
     }
 
-    /// The most And gates on a path to an output. Time grows with the number of gates.
-    pub fn depth(&self, alloc: Global) -> Result<u32, hy_bits::Memory>
-        ensures { IfOk result (λ d. d ≡ depth_of self.now) }
+    /// The level of every variable, inputs first: the most And gates on a path to it. Time grows with the number of gates.
+    ///
+    /// # Errors
+    ///
+    /// Memory ran out.
+    pub fn levels(&self, alloc: Global) -> Result<Vec<u32>, hy_bits::Memory>
+        ensures { IfOk result (λ levels. 0 ∷ levels.items ≡ wires as_levels [] self.now) }
     {
         let mut levels = vec![in alloc; 0; self.ins as usize]?;
         for gate in &self.gates {
             let level = gate_level(&levels, *gate);
             levels.push(level)?;
         }
+        Ok(levels)
+    }
+
+    /// The most And gates on a path to an output. Time grows with the number of gates.
+    ///
+    /// # Errors
+    ///
+    /// Memory ran out.
+    pub fn depth(&self, alloc: Global) -> Result<u32, hy_bits::Memory>
+        ensures { IfOk result (λ d. d ≡ depth_of self.now) }
+    {
+        let levels = self.levels(alloc)?;
         let mut depth = 0;
         for out in &self.outs {
             depth = depth.max(literal_level(&levels, *out));

@@ -3,8 +3,19 @@
 //! The lists are rings of neighbours in two vectors, so that every call but `new` takes constant
 //! time (`make` over many calls, since the vectors grow). Contracts see an arena as an `Arena`: how
 //! many lists it was made with, how many nodes it has, and its lists by their numbers.
-//! `Links::is_linked_once` says what is true of every arena, and the lemmas of `proofs/Chains.antt`
-//! say which links stand where after each call.
+//!
+//! # Guarantees
+//!
+//! Each clause stands in `src/lib.rt`; read `specs/Arena.antt`.
+//!
+//! - `Links::new` has so many empty lists and no node.
+//! - `Links::make` adds a node whose links stand in no list, and an empty list; it is full exactly at `MAX_NODES` nodes.
+//! - `Links::push` puts a link in front of a list, and all else stays.
+//! - `Links::unlink` takes a link out of its list, and all other orders stay.
+//! - `Links::walk` gives the first link of a list or the one after a given one, and none exactly at the end.
+//! - `Links::move_all` puts all links of one list in front of another's, in order, and leaves the first list empty.
+//! - `Links::is_linked_once` says of every arena that each link stands in one list at most, and there once; `proofs/Chains.antt` says which
+//!   links stand where after each call.
 #![tactic(auto)]
 
 ghost use Rattle.std.specs.Prelude.{◌≡◌, ◌≢◌, ◌+◌, ◌^◌, ◌<◌, ◌≤◌, ◌↔◌, [], ◌∷◌, ◌++◌, replicate, map, slice_get, slice_set, Contains, IfOk, OnErr, MatchOption};
@@ -163,73 +174,5 @@ impl Links {
         ensures { IsLinkedOnce self.now }
     {
         let _ = &self.rings;
-    }
-}
-
-#[cfg(test)]
-mod tests {
-    use super::*;
-    use std::test::Fail;
-
-    const NODES: u32 = 100_000;
-
-    /// Makes a node and puts its first link in front of the list.
-    fn push_new(links: &mut Links, list: u32) -> Result<Link, LinkFault>
-        requires { list < links.old.lists }
-        ensures { links.new.lists ≡ links.old.lists }
-    {
-        links.is_linked_once();
-        let link = Link {
-            node: links.make()?,
-            side: 0,
-        };
-        links.push(list, link);
-        Ok(link)
-    }
-
-    /// Puts the first link of one list in front of another.
-    fn shift(links: &mut Links, from: u32, to: u32) -> Option<Link>
-        requires from_made { HasList links.old from }
-        requires to_made { HasList links.old to }
-        ensures lists { links.new.lists ≡ links.old.lists }
-        ensures nodes { links.new.nodes ≡ links.old.nodes }
-    {
-        let link = links.walk(from, None)?;
-        links.is_linked_once();
-        links.unlink(link);
-        links.push(to, link);
-        Some(link)
-    }
-
-    /// Whether a walk meets the first links of all nodes, from the last node to the first.
-    fn has_all_downwards(links: &Links, list: u32) -> bool
-        requires { HasList links.now list }
-    {
-        let mut current = None;
-        for node in (0..NODES).rev() {
-            current = links.walk(list, current);
-            if current != Some(Link { node, side: 0 }) {
-                return false;
-            }
-        }
-        links.walk(list, current).is_none()
-    }
-
-    #[test]
-    fn many_links_move_between_lists_in_order(rt: HostRuntime) -> Result<(), Fail> {
-        let mut links = Links::new(rt.alloc(), 2)?;
-        for node in 0..NODES {
-            assert_eq!(rt; push_new(&mut links, 0)?, Link { node, side: 0 });
-        }
-        assert!(rt; has_all_downwards(&links, 0));
-        links.move_all(0, 1);
-        assert_eq!(rt; links.walk(0, None), None);
-        assert!(rt; has_all_downwards(&links, 1));
-        for node in (0..NODES).rev() {
-            assert_eq!(rt; shift(&mut links, 1, 0), Some(Link { node, side: 0 }));
-        }
-        assert_eq!(rt; links.walk(1, None), None);
-        assert_eq!(rt; links.walk(0, None), Some(Link { node: 0, side: 0 }));
-        Ok(())
     }
 }

@@ -8,7 +8,7 @@ use Rattle.hy_bits.proofs.BitLaws.{number-push_of, number-carry_save, length-bit
 use Rattle.gate_net.specs.declared.literal.Lit.{Lit}
 use Rattle.gate_net.specs.Circuit.{Circuit}
 use Rattle.gate_net.specs.Meaning.{value}
-use Rattle.adder_blocks.specs.Spelled.{spelled}
+use Rattle.gate_net.specs.Spelled.{spelled}
 use Rattle.adder_blocks.proofs.BitSteps.{bitwise_three-more}
 use Rattle.mul_blocks.proofs.ModLaws.{plus-mod, pow-more}
 

@@ -2,7 +2,7 @@
 use Rattle.std.specs.Prelude.{◌≡◌, ℕ, ◌+◌, ◌%◌, Bool, ◌&&◌, List, map}
 use Rattle.gate_net.specs.declared.literal.Lit.{Lit}
 use Rattle.gate_net.specs.Circuit.{Circuit}
-use Rattle.adder_blocks.specs.Spelled.{spelled, AllStand, AllWithin}
+use Rattle.gate_net.specs.Spelled.{spelled, AllStand, AllWithin}
 
 -- the bits of a word where the digit is 1, and else zeros
 abbrev pub row_bits : Bool → List Bool → List Bool

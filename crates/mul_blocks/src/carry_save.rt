@@ -1,37 +1,17 @@
-//! A product's rows as two words with their sum, by a tree of carry-save adders.
+//! A product's rows as two words with their sum, by a carry-save tree: four words become two by two full adders a place, again and
+//! again (Wallace).
 ghost use Rattle.std.specs.Prelude.{◌≡◌, ℕ, ◌+◌, ◌-◌, ◌*◌, ◌%◌, ◌^◌, ◌≤◌, ◌<◌, Bool, List, length, IfOk, IfErr};
-ghost use Rattle.hy_bits.specs.Bits.{bit, sum_bit, next_carry};
+ghost use Rattle.hy_bits.specs.Bits.{bit};
 ghost use Rattle.gate_net.specs.Circuit.{Stands};
 ghost use Rattle.gate_net.specs.Meaning.{value, level};
 ghost use Rattle.gate_net.specs.Growth.{Grows, StopsWithin};
-ghost use Rattle.adder_blocks.specs.Spelled.{values, spelled, AllStand, AllWithin};
-ghost use Rattle.adder_blocks.specs.Steps.{IsOfThree, LevelOfThree};
+ghost use Rattle.gate_net.specs.Spelled.{values, spelled, AllStand, AllWithin};
 ghost use Rattle.mul_blocks.specs.Rows.{AddUpTo, BothStand, BothWithin};
 
 use crate::rows::row;
+use adder_blocks::full_adder;
 use gate_net::{GateFault, Lit, Net};
 use std::alloc::Global;
-
-/// One place of three words: the lowest bit of their sum, and the carry to the place above. One AND.
-fn full_adder(net: &mut Net, x: Lit, y: Lit, z: Lit) -> Result<(Lit, Lit), GateFault>
-    requires first { Stands net.old x }
-    requires second { Stands net.old y }
-    requires third { Stands net.old z }
-    ensures grows { Grows net.old net.new 5 1 }
-    ensures stops { IfErr result (StopsWithin net.old net.new 5) }
-    ensures stands { IfOk result (λ r. Stands net.new r.0 × Stands net.new r.1) }
-    ensures sum { IfOk result (λ r. IsOfThree sum_bit net.old net.new x y z r.0) }
-    ensures carry { IfOk result (λ r. IsOfThree next_carry net.old net.new x y z r.1) }
-    ensures sum_level { IfOk result (λ r. LevelOfThree 0 net.old net.new x y z r.0) }
-    ensures carry_level { IfOk result (λ r. LevelOfThree 1 net.old net.new x y z r.1) }
-{
-    let first = net.xor(x, z)?;
-    let second = net.xor(y, z)?;
-    let sum = net.xor(first, y)?;
-    let both = net.and(first, second)?;
-    let carry = net.xor(z, both)?;
-    Ok((sum, carry))
-}
 
 /// Two words with the sum of three, modulo two to their length. The carry out of the top isn't made.
 fn carry_save(

@@ -1,8 +1,9 @@
 //! Products in either form.
 ghost use Rattle.std.specs.Prelude.{◌≡◌, ℕ, ◌+◌, ◌-◌, ◌*◌, ◌^◌, ◌≤◌, ◌<◌, Bool, List, length, IfOk, IfErr};
 ghost use Rattle.hy_bits.specs.Words.{word_mul};
+ghost use Rattle.hy_bits.specs.Sizes.{product_size};
 ghost use Rattle.gate_net.specs.Growth.{Grows, StopsWithin};
-ghost use Rattle.adder_blocks.specs.Spelled.{spelled, AllStand, AllWithin};
+ghost use Rattle.gate_net.specs.Spelled.{spelled, AllStand, AllWithin};
 
 use crate::carry_save::rows_in_two;
 use crate::rows::{product_by_rows, row};
@@ -26,8 +27,8 @@ fn product_by_tree(
     ensures same { IfOk result (λ r. length r.items ≡ length a.now) }
     ensures value { IfOk result (λ r. (bits : List Bool) → spelled net.new bits r.items ≡ word_mul (2 ^ length a.now) (spelled net.old bits a.now) (spelled net.old bits b.now)) }
     ensures level { IfOk result (λ r. (d k : ℕ) → length a.now ≤ 2 ^ k → 0 < k → AllWithin net.old d a.now → AllWithin net.old d b.now → AllWithin net.new (d + 3 * k) r.items) }
-    ensures gates { (k : ℕ) → length a.now ≤ 2 ^ k → Grows net.old net.new (8 * (length a.now * length a.now) + 8 * (length a.now * (1 + k))) (8 * (length a.now * length a.now) + 8 * (length a.now * (1 + k))) }
-    ensures stops { IfErr result (λ e. (k : ℕ) → length a.now ≤ 2 ^ k → StopsWithin net.old net.new (8 * (length a.now * length a.now) + 8 * (length a.now * (1 + k))) e) }
+    ensures gates { (k : ℕ) → length a.now ≤ 2 ^ k → Grows net.old net.new (product_size (length a.now) k) (product_size (length a.now) k) }
+    ensures stops { IfErr result (λ e. (k : ℕ) → length a.now ≤ 2 ^ k → StopsWithin net.old net.new (product_size (length a.now) k) e) }
 {
     if a.len() == 1 {
         let only = row(alloc, net, a, b[0])?;
@@ -38,8 +39,12 @@ fn product_by_tree(
     Ok(out)
 }
 
-/// The product of two words of one length from 1 to 64, modulo two to the length. In the compact form its rows
-/// are added one after another, in the shallow form by a tree of carry-save adders and one sum.
+/// The product of two words of one length from 1 on, modulo two to the length. In the compact form its rows
+/// are added one after another, in the shallow form by a carry-save tree and one prefix adder.
+///
+/// # Errors
+///
+/// `GateLimit` where the net has reached its budget, and `Memory`. The net may have more gates.
 pub fn product(
     alloc: Global,
     net: &mut Net,
@@ -63,8 +68,8 @@ pub fn product(
     // The gates, also after an Err: in the compact form n^2 - n + 1 ANDs at a length of n, and in either form
     // at most eight gates for each two places, and those of a sum.
     ensures ands { form ≡ Form.Compact → Grows net.old net.new (3 * (length a.now * length a.now)) (length a.now * length a.now - length a.now + 1) }
-    ensures gates { (k : ℕ) → length a.now ≤ 2 ^ k → Grows net.old net.new (8 * (length a.now * length a.now) + 8 * (length a.now * (1 + k))) (8 * (length a.now * length a.now) + 8 * (length a.now * (1 + k))) }
-    ensures stops { IfErr result (λ e. (k : ℕ) → length a.now ≤ 2 ^ k → StopsWithin net.old net.new (8 * (length a.now * length a.now) + 8 * (length a.now * (1 + k))) e) }
+    ensures gates { (k : ℕ) → length a.now ≤ 2 ^ k → Grows net.old net.new (product_size (length a.now) k) (product_size (length a.now) k) }
+    ensures stops { IfErr result (λ e. (k : ℕ) → length a.now ≤ 2 ^ k → StopsWithin net.old net.new (product_size (length a.now) k) e) }
 {
     match form {
         Form::Compact => {

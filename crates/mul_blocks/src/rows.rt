@@ -5,7 +5,7 @@ ghost use Rattle.hy_bits.specs.Words.{word_mul};
 ghost use Rattle.gate_net.specs.Circuit.{Stands};
 ghost use Rattle.gate_net.specs.Meaning.{value, level};
 ghost use Rattle.gate_net.specs.Growth.{Grows, StopsWithin};
-ghost use Rattle.adder_blocks.specs.Spelled.{values, spelled, AllStand, AllWithin};
+ghost use Rattle.gate_net.specs.Spelled.{values, spelled, AllStand, AllWithin};
 ghost use Rattle.mul_blocks.specs.Rows.{row_bits};
 
 use adder_blocks::sum;

@@ -2,8 +2,8 @@ use Rattle.std.proofs.Common.{◌<◌, ◌≤◌, ◌&&◌, length, ap, ◌∙�
 use Rattle.gate_net.specs.Circuit.{Stands}
 use Rattle.gate_net.specs.Meaning.{level}
 use Rattle.gate_net.proofs.GrowthLaws.{Grows-value, Grows-level, Grows-trans, Grows-then}
-use Rattle.adder_blocks.specs.Spelled.{AllStand}
-use Rattle.adder_blocks.proofs.NetLaws.{AllWithin-Grows, values-Grows, AllStand-Grows, equal_two}
+use Rattle.gate_net.specs.Spelled.{AllStand}
+use Rattle.gate_net.proofs.ListLaws.{AllWithin-Grows, values-Grows, AllStand-Grows, equal_two}
 use Rattle.std.specs.List.{list_all}
 use Rattle.adder_blocks.proofs.TreeLaws.{halve, all_of-split, All-take, All-drop}
 use Rattle.adder_blocks.proofs.compare.+all_of.Goals as goal

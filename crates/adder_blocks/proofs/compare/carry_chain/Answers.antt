@@ -3,8 +3,8 @@ use Rattle.std.proofs.lemmas.List.{length-map}
 use Rattle.hy_bits.specs.Bits.{next_carry}
 use Rattle.gate_net.specs.Meaning.{value}
 use Rattle.gate_net.proofs.GrowthLaws.{Grows-value, Grows-then}
-use Rattle.adder_blocks.specs.Spelled.{values}
-use Rattle.adder_blocks.proofs.NetLaws.{equal_three, get_or-values}
+use Rattle.gate_net.specs.Spelled.{values}
+use Rattle.gate_net.proofs.ListLaws.{equal_three, get_or-values}
 use Rattle.adder_blocks.proofs.BitSteps.{carry_out-more}
 use Rattle.adder_blocks.proofs.compare.carry_chain.Goals as goal
 

@@ -3,7 +3,7 @@ use Rattle.hy_bits.specs.Bits.{carry_out}
 use Rattle.gate_net.specs.Circuit.{Stands}
 use Rattle.gate_net.specs.Meaning.{value}
 use Rattle.gate_net.specs.Growth.{Grows}
-use Rattle.adder_blocks.specs.Spelled.{values}
+use Rattle.gate_net.specs.Spelled.{values}
 use Rattle.adder_blocks.proofs.compare.carry_chain.Given as goal
 
 abbrev pub invariant-loop-place : goal.invariant-loop-place

@@ -6,8 +6,8 @@ use Rattle.gate_net.specs.declared.literal.Lit.{Lit}
 use Rattle.gate_net.specs.Circuit.{Circuit}
 use Rattle.gate_net.specs.Meaning.{value}
 use Rattle.gate_net.proofs.GrowthLaws.{Grows-then, StopsWithin-after}
-use Rattle.adder_blocks.specs.Spelled.{values}
-use Rattle.adder_blocks.proofs.NetLaws.{length-from_values}
+use Rattle.gate_net.specs.Spelled.{values}
+use Rattle.gate_net.proofs.ListLaws.{length-from_values}
 use Rattle.hy_bits.proofs.BitLaws.{eq-bits, length-bitwise}
 use Rattle.std.specs.List.{list_all}
 use Rattle.adder_blocks.proofs.compare.equal.Goals as goal

@@ -2,13 +2,13 @@ use Rattle.std.proofs.Common.{Bool, true, not, map, List, refl, sym, ap, ◌∙�
 use Rattle.std.proofs.lemmas.List.{length-map}
 use Rattle.hy_bits.specs.Bits.{carry_out}
 use Rattle.gate_net.specs.Meaning.{value}
-use Rattle.adder_blocks.specs.Spelled.{values}
-use Rattle.adder_blocks.proofs.NetLaws.{values-complements, AllStand-complements}
+use Rattle.gate_net.specs.Spelled.{values}
+use Rattle.gate_net.proofs.ListLaws.{values-complements, AllStand-complements}
 use Rattle.gate_net.proofs.MeaningLaws.{value-complement, value-true}
 use Rattle.gate_net.specs.Literal.{complement_of}
 use Rattle.hy_bits.proofs.BitLaws.{nat_lt-difference}
 use Rattle.gate_net.proofs.MeaningLaws.{level-constant, level-complement}
-use Rattle.adder_blocks.proofs.NetLaws.{AllWithin-complements}
+use Rattle.gate_net.proofs.ListLaws.{AllWithin-complements}
 use Rattle.adder_blocks.proofs.compare.less_u.Goals as goal
 
 pub carry_of_sum-requires-clause-second : goal.carry_of_sum-requires-clause-second

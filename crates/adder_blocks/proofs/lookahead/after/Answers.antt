@@ -1,6 +1,6 @@
 use Rattle.std.proofs.Common.{◌+◌, Bool, map, List, [], ◌∷◌, ◌++◌, get_or, take, sym, ap, ◌∙◌, arith}
 use Rattle.gate_net.proofs.GrowthLaws.{Grows-then}
-use Rattle.adder_blocks.proofs.NetLaws.{equal_push}
+use Rattle.gate_net.proofs.ListLaws.{equal_push}
 use Rattle.std.proofs.lemmas.List.{map_more, map_push}
 use Rattle.std.proofs.lemmas.List.Elements.{All-push}
 use Rattle.adder_blocks.specs.declared.lookahead.Cell.{Cell}

@@ -2,7 +2,7 @@ use Rattle.std.proofs.Common.{◌&&◌, refl, ◌∙◌, arith}
 use Rattle.hy_bits.specs.Bits.{xor}
 use Rattle.gate_net.specs.Meaning.{value}
 use Rattle.gate_net.proofs.GrowthLaws.{Grows-value, Grows-level, Grows-trans}
-use Rattle.adder_blocks.proofs.NetLaws.{equal_two}
+use Rattle.gate_net.proofs.ListLaws.{equal_two}
 use Rattle.adder_blocks.proofs.CellLaws.{compose-bits}
 use Rattle.adder_blocks.proofs.lookahead.compose.Goals as goal
 

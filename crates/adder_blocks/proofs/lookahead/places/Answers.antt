@@ -3,8 +3,8 @@ use Rattle.std.proofs.lemmas.List.{length-map}
 use Rattle.hy_bits.specs.Bits.{xor, bitwise, next_carry}
 use Rattle.gate_net.specs.Meaning.{value}
 use Rattle.gate_net.proofs.GrowthLaws.{Grows-value, Grows-level, Grows-stands, Grows-trans, Grows-then}
-use Rattle.adder_blocks.specs.Spelled.{values}
-use Rattle.adder_blocks.proofs.NetLaws.{equal_push, equal_two, get_or-values}
+use Rattle.gate_net.specs.Spelled.{values}
+use Rattle.gate_net.proofs.ListLaws.{equal_push, equal_two, get_or-values}
 use Rattle.adder_blocks.proofs.BitSteps.{bitwise-more}
 use Rattle.std.proofs.lemmas.List.{map_push, length_push}
 use Rattle.std.proofs.lemmas.List.Elements.{All-push}
@@ -20,8 +20,8 @@ loop-place-preserved c =
     let i = c.loop-place.place in
     let q = Grows-trans c.in_ok-propagate.ensures.grows c.in_ok-generate.ensures.grows in
     let one = Grows-trans p c.in_ok-propagate.ensures.grows in
-    let at_a : c.loop-place.place < length c.args.a.now = omega (arith, c.requires.within_first) in
-    let at_b : c.loop-place.place < length c.args.b.now = omega (arith, c.requires.within_second) in
+    let at_a : c.loop-place.place < length c.args.a.now = omega arith in
+    let at_b : c.loop-place.place < length c.args.b.now = omega (arith, c.requires.same_length) in
     let stand_a = c.requires.first c.loop-place.place (record { code = 0 }) at_a in
     let stand_b = c.requires.second c.loop-place.place (record { code = 0 }) at_b in
     let x : Cell = record { generate = c.in_ok-generate.generate; propagate = c.in_ok-propagate.propagate } in

@@ -2,7 +2,7 @@ use Rattle.std.proofs.Common.{◌≡◌, ℕ, ◌*◌, Bool, List, length, map, 
 use Rattle.std.specs.List.{All}
 use Rattle.hy_bits.specs.Bits.{bitwise, next_carry}
 use Rattle.gate_net.specs.Growth.{Grows}
-use Rattle.adder_blocks.specs.Spelled.{values, AllWithin}
+use Rattle.gate_net.specs.Spelled.{values, AllWithin}
 use Rattle.adder_blocks.specs.Cells.{CellStands, CellWithin, carried}
 use Rattle.adder_blocks.proofs.lookahead.places.Given as goal
 

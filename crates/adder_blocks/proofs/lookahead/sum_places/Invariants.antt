@@ -1,7 +1,7 @@
 use Rattle.std.proofs.Common.{ℕ, ◌*◌, take}
 use Rattle.hy_bits.specs.Bits.{bitwise_three, sum_bit}
-use Rattle.adder_blocks.specs.Spelled.{values, AllWithin}
-use Rattle.adder_blocks.proofs.NetLaws.{Progress}
+use Rattle.gate_net.specs.Spelled.{values, AllWithin}
+use Rattle.gate_net.proofs.ListLaws.{Progress}
 use Rattle.adder_blocks.proofs.lookahead.sum_places.Given as goal
 
 abbrev pub invariant-loop-place : goal.invariant-loop-place

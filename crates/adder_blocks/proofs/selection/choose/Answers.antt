@@ -3,9 +3,9 @@ use Rattle.std.proofs.lemmas.List.{take_all, length-map, length_push}
 use Rattle.hy_bits.specs.Bits.{bitwise}
 use Rattle.gate_net.specs.Meaning.{value}
 use Rattle.gate_net.proofs.GrowthLaws.{Grows-value, Grows-level}
-use Rattle.adder_blocks.specs.Spelled.{values}
+use Rattle.gate_net.specs.Spelled.{values}
 use Rattle.adder_blocks.specs.Steps.{chosen}
-use Rattle.adder_blocks.proofs.NetLaws.{Progress-push, AllWithin-push, equal_two, equal_three, equal_push, get_or-values}
+use Rattle.gate_net.proofs.ListLaws.{Progress-push, AllWithin-push, equal_two, equal_three, equal_push, get_or-values}
 use Rattle.adder_blocks.proofs.BitSteps.{bitwise-more}
 use Rattle.hy_bits.proofs.BitLaws.{select-bits}
 use Rattle.adder_blocks.proofs.selection.choose.Goals as goal

@@ -1,9 +1,9 @@
 use Rattle.std.proofs.Common.{◌≡◌, ℕ, ◌+◌, ◌*◌, ◌≤◌, length, take}
 use Rattle.hy_bits.specs.Bits.{bitwise}
 use Rattle.gate_net.specs.Meaning.{value, level}
-use Rattle.adder_blocks.specs.Spelled.{values, AllWithin}
+use Rattle.gate_net.specs.Spelled.{values, AllWithin}
 use Rattle.adder_blocks.specs.Steps.{chosen}
-use Rattle.adder_blocks.proofs.NetLaws.{Progress}
+use Rattle.gate_net.proofs.ListLaws.{Progress}
 use Rattle.adder_blocks.proofs.selection.choose.Given as goal
 
 abbrev pub invariant-loop-place : goal.invariant-loop-place

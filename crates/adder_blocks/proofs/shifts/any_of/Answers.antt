@@ -3,8 +3,8 @@ use Rattle.std.proofs.lemmas.Bool.Decides.{nat_tests}
 use Rattle.std.specs.List.{list_all}
 use Rattle.hy_bits.specs.Bits.{number}
 use Rattle.gate_net.proofs.MeaningLaws.{value-complement}
-use Rattle.adder_blocks.specs.Spelled.{values}
-use Rattle.adder_blocks.proofs.NetLaws.{AllStand-complements, values-complements}
+use Rattle.gate_net.specs.Spelled.{values}
+use Rattle.gate_net.proofs.ListLaws.{AllStand-complements, values-complements}
 use Rattle.adder_blocks.proofs.shifts.any_of.Goals as goal
 
 -- bits spell more than 0 where some bit is 1

@@ -8,9 +8,9 @@ use Rattle.gate_net.specs.declared.literal.Lit.{Lit}
 use Rattle.gate_net.specs.Circuit.{Circuit, Stands}
 use Rattle.gate_net.specs.Meaning.{value}
 use Rattle.gate_net.proofs.GrowthLaws.{Grows-value, Grows-stands, Grows-then, StopsWithin-after}
-use Rattle.adder_blocks.specs.Spelled.{values}
+use Rattle.gate_net.specs.Spelled.{values}
 use Rattle.adder_blocks.specs.Shifts.{moved_by}
-use Rattle.adder_blocks.proofs.NetLaws.{get_or-values, length-from_values}
+use Rattle.gate_net.proofs.ListLaws.{get_or-values, length-from_values}
 use Rattle.adder_blocks.proofs.TreeLaws.{below_power}
 use Rattle.adder_blocks.proofs.ShiftLaws.{moved_by-length, moved_by-map, moved_by-selected, All-moved_by}
 use Rattle.adder_blocks.proofs.shifts.moved_by_count.Goals as goal

@@ -2,7 +2,7 @@ use Rattle.std.proofs.Common.{◌≡◌, ◌*◌, Bool, List, length, take}
 use Rattle.hy_bits.specs.Bits.{number}
 use Rattle.gate_net.specs.Meaning.{value}
 use Rattle.gate_net.specs.Growth.{Grows}
-use Rattle.adder_blocks.specs.Spelled.{values, AllStand}
+use Rattle.gate_net.specs.Spelled.{values, AllStand}
 use Rattle.adder_blocks.specs.Shifts.{moved_by}
 use Rattle.adder_blocks.proofs.shifts.moved_by_count.Given as goal
 

@@ -8,9 +8,9 @@ use Rattle.gate_net.specs.declared.literal.Lit.{Lit}
 use Rattle.gate_net.specs.Circuit.{Circuit}
 use Rattle.gate_net.specs.Meaning.{value}
 use Rattle.gate_net.proofs.MeaningLaws.{value-false}
-use Rattle.adder_blocks.specs.Spelled.{values, spelled}
+use Rattle.gate_net.specs.Spelled.{values, spelled}
 use Rattle.adder_blocks.specs.Shifts.{moved_by, shifted_by}
-use Rattle.adder_blocks.proofs.NetLaws.{get_or-values, length-from_values}
+use Rattle.gate_net.proofs.ListLaws.{get_or-values, length-from_values}
 use Rattle.adder_blocks.proofs.ShiftLaws.{moved_by-length, number-moved_up, number-moved_down, number-moved_signed}
 use Rattle.adder_blocks.proofs.shifts.shift.Goals as goal
 

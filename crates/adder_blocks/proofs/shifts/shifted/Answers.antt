@@ -1,3 +1,4 @@
+use Rattle.hy_bits.specs.Sizes.{adder_size}
 use Rattle.std.proofs.Common.{◌≡◌, ℕ, zero, suc, ◌+◌, ◌*◌, ◌^◌, ◌<◌, ◌≤◌, Bool, true, nat_lt, if◌then◌else◌, List, [], length, take, drop, replicate, sym, ap, ◌∙◌, inl, inr, arith, rules}
 use Rattle.std.proofs.Math.Nat.{mul-le-mul_left}
 use Rattle.std.proofs.lemmas.List.{length-map}
@@ -8,9 +9,9 @@ use Rattle.hy_bits.specs.Bits.{number}
 use Rattle.gate_net.specs.Circuit.{Stands}
 use Rattle.gate_net.specs.Meaning.{value}
 use Rattle.gate_net.proofs.GrowthLaws.{Grows-value, Grows-trans, Grows-then, StopsWithin-after}
-use Rattle.adder_blocks.specs.Spelled.{values, spelled, AllStand}
+use Rattle.gate_net.specs.Spelled.{values, spelled, AllStand}
 use Rattle.adder_blocks.specs.Shifts.{moved_by}
-use Rattle.adder_blocks.proofs.NetLaws.{values-Grows, length-from_values}
+use Rattle.gate_net.proofs.ListLaws.{values-Grows, length-from_values}
 use Rattle.adder_blocks.proofs.TreeLaws.{All-drop, spelled-parts}
 use Rattle.adder_blocks.proofs.ShiftLaws.{map-replicate, moved_by-length, moved_by-full}
 use Rattle.adder_blocks.proofs.shifts.shifted.Goals as goal
@@ -52,7 +53,7 @@ returns-in_err-any-clause-stops c =
     let high : length c.split_at.result.0.now + length c.split_at.result.1.now ≡ length c.args.count.now = search rules in
     let within : length c.split_at.result.0.now ≤ k = omega (arith, low, few (length c.args.a.now) c.stages.result k c.stages.ensures.short small) in
     let fits = room (length c.args.a.now) (length c.split_at.result.0.now) k (length c.split_at.result.1.now) (length c.args.count.now) within high in
-    StopsWithin-after c.any_of.new.net (length c.split_at.result.1.now) (8 * (length c.args.a.now * (1 + k)) + 4 * length c.args.count.now) _ c.in_ok-near.ensures.grows c.in_err-any.ensures.stops (omega (arith, fits.0)))
+    StopsWithin-after c.any_of.new.net (length c.split_at.result.1.now) (adder_size (length c.args.a.now) k + 4 * length c.args.count.now) _ c.in_ok-near.ensures.grows c.in_err-any.ensures.stops (omega (arith, fits.0)))
 
 pub returns-in_err-far-clause-gates : goal.returns-in_err-far-clause-gates
 returns-in_err-far-clause-gates c = λ k small.
@@ -88,7 +89,7 @@ returns-in_err-out-clause-stops c =
     let high : length c.split_at.result.0.now + length c.split_at.result.1.now ≡ length c.args.count.now = search rules in
     let within : length c.split_at.result.0.now ≤ k = omega (arith, low, few (length c.args.a.now) c.stages.result k c.stages.ensures.short small) in
     let fits = room (length c.args.a.now) (length c.split_at.result.0.now) k (length c.split_at.result.1.now) (length c.args.count.now) within high in
-    StopsWithin-after c.choose.new.net (3 * length c.deref.result.now) (8 * (length c.args.a.now * (1 + k)) + 4 * length c.args.count.now) _ (Grows-trans c.in_ok-near.ensures.grows c.in_ok-any.ensures.grows) c.in_err-out.ensures.stops (omega (arith, fits.0, same)))
+    StopsWithin-after c.choose.new.net (3 * length c.deref.result.now) (adder_size (length c.args.a.now) k + 4 * length c.args.count.now) _ (Grows-trans c.in_ok-near.ensures.grows c.in_ok-any.ensures.grows) c.in_err-out.ensures.stops (omega (arith, fits.0, same)))
 
 pub returns-clause-gates : goal.returns-clause-gates
 returns-clause-gates c = λ k small.

@@ -4,15 +4,15 @@ use Rattle.hy_bits.specs.Bits.{sum_bits}
 use Rattle.gate_net.specs.declared.literal.Lit.{Lit}
 use Rattle.gate_net.specs.Circuit.{Circuit}
 use Rattle.gate_net.specs.Meaning.{value}
-use Rattle.adder_blocks.specs.Spelled.{values}
-use Rattle.adder_blocks.proofs.NetLaws.{values-complements, AllStand-complements, length-from_values}
+use Rattle.gate_net.specs.Spelled.{values}
+use Rattle.gate_net.proofs.ListLaws.{values-complements, AllStand-complements, length-from_values}
 use Rattle.gate_net.proofs.MeaningLaws.{value-true}
 use Rattle.gate_net.specs.Literal.{complement_of}
 use Rattle.hy_bits.specs.Bits.{number}
 use Rattle.hy_bits.specs.Words.{word_sub}
 use Rattle.hy_bits.proofs.BitLaws.{number-difference, length-sum_bits}
 use Rattle.gate_net.proofs.MeaningLaws.{level-constant}
-use Rattle.adder_blocks.proofs.NetLaws.{AllWithin-complements}
+use Rattle.gate_net.proofs.ListLaws.{AllWithin-complements}
 use Rattle.adder_blocks.proofs.sums.difference.Goals as goal
 
 equal_length : (n : Circuit) (bits : List Bool) (a b : List Lit) → length a ≡ length b → length (values n bits a) ≡ length (values n bits b)

@@ -1,13 +1,13 @@
 use Rattle.std.proofs.Common.{◌≡◌, ℕ, ◌+◌, ◌-◌, ◌%◌, ◌^◌, replicate, List, length, refl, ap, ◌∙◌, arith, rules}
 use Rattle.gate_net.specs.declared.literal.Lit.{Lit}
-use Rattle.adder_blocks.specs.Spelled.{values}
-use Rattle.adder_blocks.proofs.NetLaws.{values-zeros}
+use Rattle.gate_net.specs.Spelled.{values}
+use Rattle.gate_net.proofs.ListLaws.{values-zeros}
 use Rattle.hy_bits.specs.Bits.{number}
 use Rattle.hy_bits.specs.Words.{word_sub, word_neg}
 use Rattle.hy_bits.proofs.BitLaws.{number-zeros}
 use Rattle.std.proofs.lemmas.List.{length-replicate}
 use Rattle.gate_net.proofs.MeaningLaws.{level-constant}
-use Rattle.adder_blocks.proofs.NetLaws.{AllWithin-replicate}
+use Rattle.gate_net.proofs.ListLaws.{AllWithin-replicate}
 use Rattle.adder_blocks.proofs.sums.negative.Goals as goal
 
 zero_minus : (m x y : ℕ) → x ≡ 0 → word_sub m x y ≡ word_neg m y

@@ -7,8 +7,8 @@ use Rattle.gate_net.specs.Circuit.{Circuit, Stands}
 use Rattle.gate_net.specs.Meaning.{value}
 use Rattle.gate_net.specs.Growth.{Grows}
 use Rattle.gate_net.proofs.GrowthLaws.{Grows-value, Grows-stands, Grows-trans, Grows-then, StopsWithin-after}
-use Rattle.adder_blocks.specs.Spelled.{values, AllStand}
-use Rattle.adder_blocks.proofs.NetLaws.{Progress, equal_three, Progress-push, Progress-start, equal_two, stands-at, get_or-values}
+use Rattle.gate_net.specs.Spelled.{values, AllStand}
+use Rattle.gate_net.proofs.ListLaws.{Progress, equal_three, Progress-push, Progress-start, equal_two, stands-at, get_or-values}
 use Rattle.adder_blocks.proofs.BitSteps.{sum_bits-more, carry_out-more}
 use Rattle.adder_blocks.proofs.sums.ripple.Goals as goal
 

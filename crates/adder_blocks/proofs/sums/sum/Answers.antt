@@ -4,8 +4,8 @@ use Rattle.hy_bits.specs.Bits.{sum_bits}
 use Rattle.gate_net.specs.declared.literal.Lit.{Lit}
 use Rattle.gate_net.specs.Circuit.{Circuit}
 use Rattle.gate_net.specs.Meaning.{value}
-use Rattle.adder_blocks.specs.Spelled.{values}
-use Rattle.adder_blocks.proofs.NetLaws.{length-from_values}
+use Rattle.gate_net.specs.Spelled.{values}
+use Rattle.gate_net.proofs.ListLaws.{length-from_values}
 use Rattle.gate_net.proofs.MeaningLaws.{value-false}
 use Rattle.hy_bits.specs.Bits.{number}
 use Rattle.hy_bits.specs.Words.{word_add}

@@ -1,3 +1,4 @@
+use Rattle.hy_bits.specs.Sizes.{divider_size}
 use Rattle.std.proofs.Common.{◌≡◌, ℕ, ◌+◌, ◌*◌, ◌^◌, ◌<◌, Bool, List, length, sym, ap, ◌∙◌, subst, arith}
 use Rattle.std.proofs.lemmas.Result.{err_from_is_err_and}
 use Rattle.std.proofs.lemmas.List.{length-map}
@@ -7,7 +8,7 @@ use Rattle.gate_net.specs.declared.literal.Lit.{Lit}
 use Rattle.gate_net.specs.Circuit.{Circuit}
 use Rattle.gate_net.specs.Meaning.{value}
 use Rattle.gate_net.proofs.GrowthLaws.{Grows-refl, Grows-weaken, StopsWithin-after}
-use Rattle.adder_blocks.specs.Spelled.{values, spelled}
+use Rattle.gate_net.specs.Spelled.{values, spelled}
 use Rattle.div_blocks.specs.Division.{quotient_of, remainder_of}
 use Rattle.div_blocks.proofs.SignLaws.{all-below, one-quotient, one-remainder, signed-gates, signed-ands}
 use Rattle.div_blocks.proofs.division.divide.Goals as goal
@@ -15,17 +16,17 @@ use Rattle.div_blocks.proofs.division.divide.Goals.{else-signed-via-then-signed+
 
 pub returns-in_err-out-clause-gates : goal.returns-in_err-out-clause-gates
 returns-in_err-out-clause-gates c = λ k small.
-    Grows-weaken c.in_err-out.ensures.grows (signed-gates (length c.args.a.now) k (omega (arith, c.if-a-gt1.true)) small) (signed-ands (length c.args.a.now) k (omega (arith, c.if-a-gt1.true)) small)
+    Grows-weaken c.in_err-out.ensures.grows (signed-gates (length c.args.a.now) k (omega (arith, c.if-a-gt1.true)) small) (signed-ands (length c.args.a.now))
 
 pub returns-in_err-out-clause-stops : goal.returns-in_err-out-clause-stops
 returns-in_err-out-clause-stops c =
     let p = err_from_is_err_and c.from_residual.result c.from_residual.ensures.1 in
     rw (p.1, p.2) (λ k small.
-    StopsWithin-after c.divide_signed.new.net (3 * (length c.args.a.now * length c.args.a.now) + 17 * length c.args.a.now) (8 * (length c.args.a.now * length c.args.a.now * (1 + k))) _ (Grows-refl c.args.net.now) c.in_err-out.ensures.stops (omega (arith, signed-gates (length c.args.a.now) k (omega (arith, c.if-a-gt1.true)) small)))
+    StopsWithin-after c.divide_signed.new.net (3 * (length c.args.a.now * length c.args.a.now) + 17 * length c.args.a.now) (divider_size (length c.args.a.now) k) _ (Grows-refl c.args.net.now) c.in_err-out.ensures.stops (omega (arith, signed-gates (length c.args.a.now) k (omega (arith, c.if-a-gt1.true)) small)))
 
 pub returns-then-a-gt1-clause-gates : goal.returns-then-a-gt1-clause-gates
 returns-then-a-gt1-clause-gates c = λ k small.
-    Grows-weaken c.in_ok-out.ensures.grows (signed-gates (length c.args.a.now) k (omega (arith, c.if-a-gt1.true)) small) (signed-ands (length c.args.a.now) k (omega (arith, c.if-a-gt1.true)) small)
+    Grows-weaken c.in_ok-out.ensures.grows (signed-gates (length c.args.a.now) k (omega (arith, c.if-a-gt1.true)) small) (signed-ands (length c.args.a.now))
 
 pub divide_rows-requires-clause-short : goal.divide_rows-requires-clause-short
 divide_rows-requires-clause-short c = λ bits. all-below c.args.net.now bits c.args.b.now (length c.args.a.now) (sym c.requires.same_length)

@@ -5,8 +5,8 @@ use Rattle.hy_bits.specs.Bits.{number, xor}
 use Rattle.hy_bits.specs.Words.{word_div_u, word_div_s, word_rem_u, word_rem_s}
 use Rattle.gate_net.specs.Meaning.{value}
 use Rattle.gate_net.proofs.GrowthLaws.{Grows-stands, Grows-trans, Grows-then, StopsWithin-after}
-use Rattle.adder_blocks.specs.Spelled.{values, spelled}
-use Rattle.adder_blocks.proofs.NetLaws.{AllStand-Grows, values-Grows, equal_two, get_or-values, bit-at}
+use Rattle.gate_net.specs.Spelled.{values, spelled}
+use Rattle.gate_net.proofs.ListLaws.{AllStand-Grows, values-Grows, equal_two, get_or-values, bit-at}
 use Rattle.div_blocks.specs.Division.{signed_by}
 use Rattle.div_blocks.proofs.SignLaws.{quotient-lists, remainder-lists, all-below, signs-room}
 use Rattle.div_blocks.proofs.division.divide_signed.Goals as goal

@@ -9,8 +9,8 @@ use Rattle.gate_net.specs.Circuit.{Circuit, Stands}
 use Rattle.gate_net.specs.Meaning.{value}
 use Rattle.gate_net.proofs.MeaningLaws.{value-complement}
 use Rattle.gate_net.proofs.GrowthLaws.{Grows-value, Grows-stands, Grows-trans, Grows-then, StopsWithin-after}
-use Rattle.adder_blocks.specs.Spelled.{values, spelled}
-use Rattle.adder_blocks.proofs.NetLaws.{All-cons, AllStand-Grows, values-Grows, equal_two, get_or-values}
+use Rattle.gate_net.specs.Spelled.{values, spelled}
+use Rattle.gate_net.proofs.ListLaws.{All-cons, AllStand-Grows, values-Grows, equal_two, get_or-values}
 use Rattle.adder_blocks.proofs.TreeLaws.{All-take, All-drop}
 use Rattle.div_blocks.specs.Division.{left_of}
 use Rattle.div_blocks.proofs.RowLaws.{below-places, list-row, only-row, rows-room}

@@ -3,8 +3,8 @@ use Rattle.std.proofs.lemmas.List.{length-map, length_push}
 use Rattle.hy_bits.specs.Bits.{xor}
 use Rattle.gate_net.specs.Meaning.{value}
 use Rattle.gate_net.proofs.GrowthLaws.{Grows-value, Grows-trans, Grows-then}
-use Rattle.adder_blocks.specs.Spelled.{values}
-use Rattle.adder_blocks.proofs.NetLaws.{Progress-push, equal_two, get_or-values}
+use Rattle.gate_net.specs.Spelled.{values}
+use Rattle.gate_net.proofs.ListLaws.{Progress-push, equal_two, get_or-values}
 use Rattle.adder_blocks.proofs.BitSteps.{bitwise-more}
 use Rattle.div_blocks.proofs.rows.changed.Goals as goal
 

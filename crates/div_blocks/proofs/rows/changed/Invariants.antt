@@ -1,8 +1,8 @@
 use Rattle.std.proofs.Common.{◌≡◌, ◌*◌, ◌&&◌, length, take}
 use Rattle.hy_bits.specs.Bits.{xor, bitwise}
 use Rattle.gate_net.specs.Meaning.{value}
-use Rattle.adder_blocks.specs.Spelled.{values}
-use Rattle.adder_blocks.proofs.NetLaws.{Progress}
+use Rattle.gate_net.specs.Spelled.{values}
+use Rattle.gate_net.proofs.ListLaws.{Progress}
 use Rattle.div_blocks.proofs.rows.changed.Given as goal
 
 abbrev pub invariant-loop-place : goal.invariant-loop-place

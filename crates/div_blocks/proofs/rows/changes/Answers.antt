@@ -5,8 +5,8 @@ use Rattle.hy_bits.proofs.BitLaws.{carry_out-difference}
 use Rattle.gate_net.specs.Meaning.{value}
 use Rattle.gate_net.proofs.MeaningLaws.{value-true}
 use Rattle.gate_net.proofs.GrowthLaws.{Grows-value}
-use Rattle.adder_blocks.specs.Spelled.{values}
-use Rattle.adder_blocks.proofs.NetLaws.{Progress-push, Progress-start, Stands-constant, equal_two, equal_three, get_or-values}
+use Rattle.gate_net.specs.Spelled.{values}
+use Rattle.gate_net.proofs.ListLaws.{Progress-push, Progress-start, Stands-constant, equal_two, equal_three, get_or-values}
 use Rattle.adder_blocks.proofs.BitSteps.{carry_out-more}
 use Rattle.div_blocks.proofs.RowLaws.{changed-more}
 use Rattle.div_blocks.proofs.rows.changes.Goals as goal

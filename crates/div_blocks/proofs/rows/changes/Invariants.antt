@@ -2,8 +2,8 @@ use Rattle.std.proofs.Common.{◌≡◌, ◌*◌, Bool, true, not, List, length,
 use Rattle.hy_bits.specs.Bits.{xor, bitwise, sum_bits, carry_out}
 use Rattle.gate_net.specs.Circuit.{Stands}
 use Rattle.gate_net.specs.Meaning.{value}
-use Rattle.adder_blocks.specs.Spelled.{values}
-use Rattle.adder_blocks.proofs.NetLaws.{Progress}
+use Rattle.gate_net.specs.Spelled.{values}
+use Rattle.gate_net.proofs.ListLaws.{Progress}
 use Rattle.div_blocks.proofs.rows.changes.Given as goal
 
 abbrev pub invariant-loop-place : goal.invariant-loop-place

@@ -3,7 +3,7 @@ use Rattle.std.proofs.lemmas.Result.{err_from_is_err_and}
 use Rattle.hy_bits.specs.Bits.{xor}
 use Rattle.gate_net.proofs.MeaningLaws.{value-complement}
 use Rattle.gate_net.proofs.GrowthLaws.{Grows-value, Grows-trans, Grows-then, Grows-weaken, StopsWithin-after}
-use Rattle.adder_blocks.proofs.NetLaws.{equal_two}
+use Rattle.gate_net.proofs.ListLaws.{equal_two}
 use Rattle.div_blocks.proofs.rows.difference_place.Goals as goal
 
 pub returns-in_err-differ-clause-grows : goal.returns-in_err-differ-clause-grows

@@ -3,8 +3,8 @@ use Rattle.std.proofs.lemmas.List.{length-map}
 use Rattle.hy_bits.specs.Bits.{number, xor, bitwise}
 use Rattle.gate_net.specs.Meaning.{value}
 use Rattle.gate_net.proofs.GrowthLaws.{Grows-value, Grows-trans, Grows-then}
-use Rattle.adder_blocks.specs.Spelled.{values}
-use Rattle.adder_blocks.proofs.NetLaws.{equal_two, values-Grows}
+use Rattle.gate_net.specs.Spelled.{values}
+use Rattle.gate_net.proofs.ListLaws.{equal_two, values-Grows}
 use Rattle.div_blocks.specs.Division.{changed_bits, left_of}
 use Rattle.div_blocks.proofs.RowLaws.{first-true, at_most-true, left-number}
 use Rattle.div_blocks.proofs.rows.row.Goals as goal

@@ -1,7 +1,7 @@
 use Rattle.std.proofs.Common.{◌&&◌, ◌∙◌}
 use Rattle.hy_bits.specs.Bits.{xor}
 use Rattle.gate_net.proofs.GrowthLaws.{Grows-value, Grows-trans}
-use Rattle.adder_blocks.proofs.NetLaws.{equal_two}
+use Rattle.gate_net.proofs.ListLaws.{equal_two}
 use Rattle.div_blocks.proofs.signs.sign_place.Goals as goal
 
 pub returns-clause-grows : goal.returns-clause-grows

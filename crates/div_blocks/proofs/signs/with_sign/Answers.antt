@@ -6,8 +6,8 @@ use Rattle.gate_net.specs.Circuit.{Circuit, Stands}
 use Rattle.gate_net.specs.Meaning.{value}
 use Rattle.gate_net.specs.Growth.{Grows}
 use Rattle.gate_net.proofs.GrowthLaws.{Grows-value, Grows-trans, Grows-then}
-use Rattle.adder_blocks.specs.Spelled.{values, AllStand}
-use Rattle.adder_blocks.proofs.NetLaws.{Progress, Progress-push, Progress-start, equal_two, bit-at}
+use Rattle.gate_net.specs.Spelled.{values, AllStand}
+use Rattle.gate_net.proofs.ListLaws.{Progress, Progress-push, Progress-start, equal_two, bit-at}
 use Rattle.div_blocks.specs.Division.{signed_by}
 use Rattle.div_blocks.proofs.SignLaws.{turned_bits, turned_carry, turned_bits-more, turned_carry-more, number-signed}
 use Rattle.div_blocks.proofs.signs.with_sign.Goals as goal

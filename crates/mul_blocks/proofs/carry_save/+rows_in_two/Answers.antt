@@ -6,8 +6,8 @@ use Rattle.gate_net.specs.declared.literal.Lit.{Lit}
 use Rattle.gate_net.specs.Circuit.{Stands}
 use Rattle.gate_net.specs.Meaning.{level}
 use Rattle.gate_net.proofs.GrowthLaws.{Grows-trans, Grows-then, StopsWithin-after}
-use Rattle.adder_blocks.specs.Spelled.{spelled, AllStand, AllWithin}
-use Rattle.adder_blocks.proofs.NetLaws.{AllWithin-Grows, values-Grows}
+use Rattle.gate_net.specs.Spelled.{spelled, AllStand, AllWithin}
+use Rattle.gate_net.proofs.ListLaws.{AllWithin-Grows, values-Grows}
 use Rattle.adder_blocks.proofs.TreeLaws.{All-take, All-drop, spelled-parts}
 use Rattle.mul_blocks.proofs.RowLaws.{rows-halves, tree-gates}
 use Rattle.mul_blocks.proofs.carry_save.+rows_in_two.Goals as goal

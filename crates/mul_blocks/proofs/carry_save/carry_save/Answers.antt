@@ -8,8 +8,8 @@ use Rattle.gate_net.specs.Meaning.{value, level}
 use Rattle.gate_net.specs.Growth.{Grows}
 use Rattle.gate_net.proofs.MeaningLaws.{value-false, level-constant}
 use Rattle.gate_net.proofs.GrowthLaws.{Grows-refl, Grows-trans, Grows-then, StopsWithin-after}
-use Rattle.adder_blocks.specs.Spelled.{values, spelled, AllStand}
-use Rattle.adder_blocks.proofs.NetLaws.{Progress, Progress-push, Progress-start, AllWithin-push, AllWithin-Grows, AllStand-Grows, values-Grows, All-cons, equal_two, equal_three, Stands-constant, bit-at, level-at}
+use Rattle.gate_net.specs.Spelled.{values, spelled, AllStand}
+use Rattle.gate_net.proofs.ListLaws.{Progress, Progress-push, Progress-start, AllWithin-push, AllWithin-Grows, AllStand-Grows, values-Grows, All-cons, equal_two, equal_three, Stands-constant, bit-at, level-at}
 use Rattle.adder_blocks.proofs.BitSteps.{bitwise_three-more}
 use Rattle.mul_blocks.proofs.RowLaws.{three-whole, number-saved}
 use Rattle.mul_blocks.proofs.carry_save.carry_save.Goals as goal

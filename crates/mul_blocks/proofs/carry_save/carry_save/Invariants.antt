@@ -1,7 +1,7 @@
 use Rattle.std.proofs.Common.{◌≡◌, ℕ, ◌+◌, ◌*◌, false, ◌∷◌, length, take}
 use Rattle.hy_bits.specs.Bits.{sum_bit, next_carry, bitwise_three}
-use Rattle.adder_blocks.specs.Spelled.{values, AllWithin}
-use Rattle.adder_blocks.proofs.NetLaws.{Progress}
+use Rattle.gate_net.specs.Spelled.{values, AllWithin}
+use Rattle.gate_net.proofs.ListLaws.{Progress}
 use Rattle.mul_blocks.proofs.carry_save.carry_save.Given as goal
 
 abbrev pub invariant-loop-place : goal.invariant-loop-place

@@ -7,8 +7,8 @@ use Rattle.gate_net.specs.Circuit.{Circuit}
 use Rattle.gate_net.specs.Meaning.{value}
 use Rattle.gate_net.specs.Growth.{Grows}
 use Rattle.gate_net.proofs.GrowthLaws.{Grows-value, Grows-trans, Grows-then, StopsWithin-after}
-use Rattle.adder_blocks.specs.Spelled.{spelled, AllStand}
-use Rattle.adder_blocks.proofs.NetLaws.{AllWithin-Grows, values-Grows, level-at}
+use Rattle.gate_net.specs.Spelled.{spelled, AllStand}
+use Rattle.gate_net.proofs.ListLaws.{AllWithin-Grows, values-Grows, level-at}
 use Rattle.mul_blocks.proofs.RowLaws.{two-digits, three-digits, two-rows, three-rows}
 use Rattle.mul_blocks.proofs.carry_save.few_rows.Goals as goal
 

@@ -1,6 +1,6 @@
 use Rattle.std.proofs.Common.{◌≡◌, ℕ, ◌+◌, ◌%◌, ◌^◌, refl, sym, ap, ◌∙◌, arith}
 use Rattle.hy_bits.specs.Bits.{number}
-use Rattle.adder_blocks.proofs.NetLaws.{AllWithin-Grows, values-Grows}
+use Rattle.gate_net.proofs.ListLaws.{AllWithin-Grows, values-Grows}
 use Rattle.mul_blocks.proofs.ModLaws.{plus-mod}
 use Rattle.mul_blocks.proofs.carry_save.four_to_two.Goals as goal
 

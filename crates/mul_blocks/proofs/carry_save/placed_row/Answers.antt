@@ -7,8 +7,8 @@ use Rattle.gate_net.specs.declared.literal.Lit.{Lit}
 use Rattle.gate_net.specs.Circuit.{Circuit}
 use Rattle.gate_net.specs.Meaning.{value, level}
 use Rattle.gate_net.proofs.MeaningLaws.{level-constant}
-use Rattle.adder_blocks.specs.Spelled.{values, spelled}
-use Rattle.adder_blocks.proofs.NetLaws.{values-zeros, AllWithin-replicate}
+use Rattle.gate_net.specs.Spelled.{values, spelled}
+use Rattle.gate_net.proofs.ListLaws.{values-zeros, AllWithin-replicate}
 use Rattle.adder_blocks.proofs.TreeLaws.{All-take, spelled-take}
 use Rattle.mul_blocks.specs.Rows.{row_bits}
 use Rattle.mul_blocks.proofs.ModLaws.{placed-mod}

@@ -5,8 +5,8 @@ use Rattle.hy_bits.specs.Bits.{bit, number}
 use Rattle.gate_net.specs.Circuit.{Stands}
 use Rattle.gate_net.specs.Meaning.{value}
 use Rattle.gate_net.proofs.GrowthLaws.{Grows-then, StopsWithin-after}
-use Rattle.adder_blocks.specs.Spelled.{values, spelled}
-use Rattle.adder_blocks.proofs.NetLaws.{values-Grows, bit-at}
+use Rattle.gate_net.specs.Spelled.{values, spelled}
+use Rattle.gate_net.proofs.ListLaws.{values-Grows, bit-at}
 use Rattle.adder_blocks.proofs.TreeLaws.{All-take, spelled-take}
 use Rattle.mul_blocks.proofs.ModLaws.{digit-more}
 use Rattle.mul_blocks.proofs.rows.product_by_rows.Goals as goal

@@ -1,7 +1,7 @@
 use Rattle.std.proofs.Common.{◌≡◌, ◌+◌, ◌-◌, ◌*◌, ◌%◌, ◌^◌, Bool, List, length, drop}
 use Rattle.hy_bits.specs.Bits.{number}
 use Rattle.gate_net.specs.Growth.{Grows}
-use Rattle.adder_blocks.specs.Spelled.{values, spelled, AllStand}
+use Rattle.gate_net.specs.Spelled.{values, spelled, AllStand}
 use Rattle.mul_blocks.proofs.rows.product_by_rows.Given as goal
 
 abbrev pub invariant-loop-count : goal.invariant-loop-count

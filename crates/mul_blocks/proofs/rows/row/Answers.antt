@@ -2,8 +2,8 @@ use Rattle.std.proofs.Common.{◌+◌, ◌<◌, ◌&&◌, false, length, get_or,
 use Rattle.std.proofs.lemmas.List.{length-map, length_push, map_more}
 use Rattle.gate_net.specs.Meaning.{value}
 use Rattle.gate_net.proofs.GrowthLaws.{Grows-value, Grows-level}
-use Rattle.adder_blocks.specs.Spelled.{values}
-use Rattle.adder_blocks.proofs.NetLaws.{Progress-push, AllWithin-push, equal_two, get_or-values}
+use Rattle.gate_net.specs.Spelled.{values}
+use Rattle.gate_net.proofs.ListLaws.{Progress-push, AllWithin-push, equal_two, get_or-values}
 use Rattle.mul_blocks.proofs.rows.row.Goals as goal
 
 pub loop-x-preserved : goal.loop-x-preserved

@@ -1,7 +1,7 @@
 use Rattle.std.proofs.Common.{◌≡◌, ℕ, ◌+◌, ◌≤◌, length, take}
 use Rattle.gate_net.specs.Meaning.{value, level}
-use Rattle.adder_blocks.specs.Spelled.{values, AllWithin}
-use Rattle.adder_blocks.proofs.NetLaws.{Progress}
+use Rattle.gate_net.specs.Spelled.{values, AllWithin}
+use Rattle.gate_net.proofs.ListLaws.{Progress}
 use Rattle.mul_blocks.specs.Rows.{row_bits}
 use Rattle.mul_blocks.proofs.rows.row.Given as goal
 

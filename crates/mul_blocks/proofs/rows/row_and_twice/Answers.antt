@@ -1,3 +1,4 @@
+use Rattle.hy_bits.specs.Sizes.{adder_size}
 use Rattle.std.proofs.Common.{◌≡◌, ℕ, ◌+◌, ◌-◌, ◌*◌, ◌/◌, ◌%◌, ◌^◌, ◌<◌, Bool, List, ◌++◌, length, take, drop, refl, sym, ap, ◌∙◌, arith}
 use Rattle.std.proofs.lemmas.Result.{err_from_is_err_and}
 use Rattle.std.proofs.lemmas.List.{map-append, length-map, length-take-le, length-drop, take-map, drop-map, take_rest}
@@ -12,8 +13,8 @@ use Rattle.gate_net.specs.Circuit.{Circuit, Stands}
 use Rattle.gate_net.specs.Meaning.{value}
 use Rattle.gate_net.specs.Growth.{Grows, StopsWithin}
 use Rattle.gate_net.proofs.GrowthLaws.{Grows-length, StopsWithin-after}
-use Rattle.adder_blocks.specs.Spelled.{values, spelled}
-use Rattle.adder_blocks.proofs.NetLaws.{AllStand-Grows, values-Grows}
+use Rattle.gate_net.specs.Spelled.{values, spelled}
+use Rattle.gate_net.proofs.ListLaws.{AllStand-Grows, values-Grows}
 use Rattle.adder_blocks.proofs.TreeLaws.{All-take, within_power}
 use Rattle.mul_blocks.proofs.ModLaws.{half-plus}
 use Rattle.mul_blocks.proofs.rows.row_and_twice.Goals as goal
@@ -29,7 +30,7 @@ returns-in_err-high-clause-stops c =
     let long : length (take (length c.deref.result.now - 1) (drop 1 c.deref.result.now)) ≡ length c.args.rest.now =
     ap length (take_rest c.deref.result.now 1) ∙ omega (arith, length-drop 1 c.deref.result.now, ap length c.deref.ensures.value, c.in_ok-out.ensures.same, c.requires.shorter) in
     let k : ℕ = length (take (length c.deref.result.now - 1) (drop 1 c.deref.result.now)) in
-    let stops = fewer (8 * (k * (1 + k))) (5 * length c.args.rest.now + 1) _ (c.in_err-high.ensures.ands refl) (c.in_err-high.ensures.stops k (within_power k)) (omega (arith, long)) in
+    let stops = fewer (adder_size k k) (5 * length c.args.rest.now + 1) _ (c.in_err-high.ensures.ands refl) (c.in_err-high.ensures.stops k (within_power k)) (omega (arith, long)) in
     rw (p.1, p.2) (StopsWithin-after c.sum.new.net (5 * length c.args.rest.now + 1) (6 * length c.args.rest.now + 2) _ c.in_ok-out.ensures.grows stops (omega (arith, c.requires.shorter)))
 
 pub returns-clause-stands : goal.returns-clause-stands

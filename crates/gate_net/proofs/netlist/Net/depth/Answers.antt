@@ -1,57 +1,26 @@
-use Rattle.std.proofs.Common.{◌≡◌, ℕ, ◌^◌, ◌<◌, ◌≤◌, max, List, [], ◌∷◌, length, take, replicate, ap, ◌∙◌, arith, rules}
-use Rattle.std.proofs.lemmas.List.{take_all}
+use Rattle.std.proofs.Common.{◌≡◌, ℕ, max, List, [], ◌∷◌, length, ap, ◌∙◌, arith, rules}
 use Rattle.gate_net.specs.declared.literal.Lit.{Lit}
-use Rattle.gate_net.specs.declared.literal.Gate.{Gate}
 use Rattle.gate_net.specs.Circuit.{Circuit}
-use Rattle.gate_net.specs.Meaning.{as_levels, reading, run, start, wires, level}
-use Rattle.gate_net.proofs.LoopLaws.{levels-init, levels-more, levels-length, levels-low, depth-more, uses-before}
+use Rattle.gate_net.specs.Meaning.{as_levels, reading, wires, level}
+use Rattle.gate_net.proofs.LoopLaws.{depth-more}
+use Rattle.gate_net.proofs.MeaningLaws.{length-wires}
 use Rattle.gate_net.proofs.netlist.Net.depth.Goals as goal
 
--- the levels of all wires, at the end of the first loop
-level-at_end : (n : Circuit) (items : List ℕ) (gates : List Gate) (i : ℕ) (l : Lit) → gates ≡ n.gates → length gates ≤ i → 0 ∷ items ≡ run as_levels (start as_levels n.ins []) (take i gates) → reading as_levels (0 ∷ items) l ≡ level n l
-unfolding level wires
-level-at_end n items gates i l e h inv =
-    ap (λ (ws : List ℕ). reading as_levels ws l) (inv ∙ ap (run as_levels (start as_levels n.ins [])) (take_all i gates h ∙ e))
-
-pub loop-gate-init : goal.loop-gate-init
-unfolding run
-loop-gate-init c =
-    let ins : c.self.inside.ins ≡ c.args.self.now.ins = ap (λ (n : Circuit). n.ins) c.self.view_is in
-    let zeros : c.in_ok-levels.levels.items ≡ replicate c.self.inside.ins 0 = search rules in
-    levels-init c.args.self.now.ins c.in_ok-levels.levels.items [] (zeros ∙ ap (λ (n : ℕ). replicate n 0) ins)
-
-pub gate_level-level-requires-clause-within : goal.gate_level-level-requires-clause-within
-gate_level-level-requires-clause-within c =
-    let ins : c.self.inside.ins ≡ c.args.self.now.ins = ap (λ (n : Circuit). n.ins) c.self.view_is in
-    let h : c.loop-gate.gate-index ≤ length c.deref-gate-items.result.now = omega arith in
-    let long = levels-length c.args.self.now.ins c.loop-gate.gate-index c.loop-gate.levels.items c.deref-gate-items.result.now h c.loop-gate.invariant in
-    uses-before (record { ins = c.self.inside.ins; gates = c.self.inside.gates.items; outs = c.self.inside.outs.items; budget = c.self.inside.budget }) _ c.loop-gate.gate-index _ _ c.deref-gate-items.ensures.value c.self.invariant.0.ordered c.loop-gate-test.true
-    (omega (arith, ap length c.deref.ensures.value))
-
-pub gate_level-level-requires-clause-low : goal.gate_level-level-requires-clause-low
-gate_level-level-requires-clause-low c =
-    let h : c.loop-gate.gate-index ≤ length c.deref-gate-items.result.now = omega arith in
-    let few : length c.deref-gate-items.result.now < 2 ^ 31 = omega (arith, ap length c.deref-gate-items.ensures.value, c.self.invariant.0.gates, c.self.invariant.0.budget_limit) in
-    rw c.deref.ensures.value (levels-low c.args.self.now.ins c.loop-gate.gate-index c.loop-gate.levels.items c.deref-gate-items.result.now h few c.loop-gate.invariant)
-
-pub loop-gate-preserved : goal.loop-gate-preserved
-loop-gate-preserved c =
-    let made = rw c.deref.ensures.value at c.gate_level-level.ensures in
-    rw c.in_ok-push.ensures.items (levels-more c.args.self.now.ins c.loop-gate.gate-index c.loop-gate.levels.items c.deref-gate-items.result.now _ c.gate_level-level.result c.loop-gate-test.true c.loop-gate.invariant made)
+level-of_wires : (n : Circuit) (ws : List ℕ) (l : Lit) → ws ≡ wires as_levels [] n → reading as_levels ws l ≡ level n l
+unfolding level
+level-of_wires n ws l e = ap (λ (vs : List ℕ). reading as_levels vs l) e
 
 pub literal_level-requires : goal.literal_level-requires
 literal_level-requires c =
-    let h : c.loop-gate.gate-index ≤ length c.deref-gate-items.result.now = c.loop-gate.auto.gate-index-end in
-    let ins : c.self.inside.ins ≡ c.args.self.now.ins = ap (λ (n : Circuit). n.ins) c.self.view_is in
-    let long = levels-length c.args.self.now.ins c.loop-gate.gate-index c.loop-gate.levels.items c.deref-gate-items.result.now h c.loop-gate.invariant in
     let within = rw c.deref-out-items.ensures.value at c.loop-out-test.true in
     let stands = c.self.invariant.0.outs c.loop-out.out-index (record { code = 0 }) within in
-    rw c.deref-out-items.ensures.value (omega (arith, ap length c.deref-in-loop-out.ensures.value, ap length c.deref-gate-items.ensures.value, c.loop-gate-test.false))
+    let gates : c.self.inside.gates.items ≡ c.args.self.now.gates = ap (λ (n : Circuit). n.gates) c.self.view_is in
+    let ins : c.self.inside.ins ≡ c.args.self.now.ins = ap (λ (n : Circuit). n.ins) c.self.view_is in
+    rw c.deref-out-items.ensures.value (omega (arith, ap length c.deref.ensures.value, ap length c.in_ok-levels.ensures, length-wires as_levels [] c.args.self.now, ap length gates, ins))
 
 pub loop-out-preserved : goal.loop-out-preserved
 loop-out-preserved c =
-    let gates : c.deref-gate-items.result.now ≡ c.args.self.now.gates = c.deref-gate-items.ensures.value ∙ ap (λ (n : Circuit). n.gates) c.self.view_is in
-    let made = rw c.deref-in-loop-out.ensures.value at c.literal_level.ensures.value in
+    let made = rw c.deref.ensures.value at c.literal_level.ensures.value in
     let greatest : c.max-depth.result ≡ max c.loop-out.depth c.literal_level.result = search rules in
     rw greatest (depth-more c.args.self.now c.deref-out-items.result.now c.loop-out.out-index _ c.loop-out.depth c.literal_level.result c.loop-out-test.true c.loop-out.invariant
-    (made ∙ level-at_end c.args.self.now c.loop-gate.levels.items c.deref-gate-items.result.now c.loop-gate.gate-index _ gates c.loop-gate-test.false c.loop-gate.invariant))
+    (made ∙ level-of_wires c.args.self.now _ _ c.in_ok-levels.ensures))
