@@ -1,2 +1,3 @@
 mod Nothing
 mod Steps
+pub mod StreamLaws

@@ -1,17 +1,15 @@
 -- What the dealer's loops need: lists that are filled from the front.
-use Rattle.std.proofs.Common.{◌≡◌, ℕ, zero, suc, ◌+◌, ◌-◌, ◌*◌, ◌%◌, ◌<◌, Bool, List, [], ◌∷◌, ◌++◌, length, take, drop, replicate, map, set, slice_index, refl, sym, ap, ◌∙◌, append_assoc, add-one, arith}
+use Rattle.std.proofs.Common.{◌≡◌, ℕ, zero, suc, ◌+◌, ◌-◌, ◌*◌, ◌%◌, ◌<◌, List, [], ◌∷◌, ◌++◌, length, take, drop, replicate, map, set, slice_index, refl, sym, ap, ◌∙◌, append_assoc, add-one, arith}
 use Rattle.std.proofs.lemmas.List.{take_more_set, take_more, map-append, length-set}
 use Rattle.std.proofs.lemmas.Nat.{mul-mod}
 use Rattle.std.proofs.Math.Nat.{mod-mod}
 use Rattle.hy_bits.specs.Words.{word_mul, word_sub}
 use Rattle.share_core.specs.Arithmetic.{difference_of, product_of}
 use Rattle.rand_core.specs.Stream.{Stream, next_u64}
-use Rattle.share_core.specs.Garbled.{joined}
-use Rattle.share_core.proofs.GarbledLaws.{joined-push, label_is}
-use Rattle.share_core.proofs.ConversionLaws.{length-mask}
-use Rattle.share_core.specs.Boolean.{bit_of}
-use Rattle.share_core.specs.Conversions.{pair_place}
-use Rattle.dealer.specs.Drawing.{label_mask, left, taken}
+use Rattle.share_core.specs.declared.labels.Label.{Label}
+use Rattle.share_core.specs.Garbled.{joined, label_words}
+use Rattle.share_core.proofs.GarbledLaws.{joined-push}
+use Rattle.dealer.specs.Drawing.{left, taken}
 
 zeros : ℕ → List ℕ
 zeros k = replicate k 0
@@ -33,21 +31,20 @@ unfolding left
 left-more zero s = refl
 left-more (suc n) s = left-more n (next_u64 s).1
 
--- a piece of two places, written from place 2 * n on
-pub two_more : (n : ℕ) (piece : ℕ → List ℕ) (out : List ℕ) → 2 * n + 1 < length out → length (piece n) ≡ 2 → take (2 * n) out ≡ joined n piece →
-    take (2 * (n + 1)) (set (set out (2 * n) (slice_index (piece n) 0)) (2 * n + 1) (slice_index (piece n) 1)) ≡ joined (n + 1) piece
-two_more n piece out within two so_far =
-    let one : List ℕ = set out (2 * n) (slice_index (piece n) 0) in
+-- a label's two words, written from place 2 * n on
+pub two_more : (n : ℕ) (piece : ℕ → Label) (out : List ℕ) → 2 * n + 1 < length out → take (2 * n) out ≡ joined n (λ k. label_words (piece k)) →
+    take (2 * (n + 1)) (set (set out (2 * n) (piece n).low) (2 * n + 1) (piece n).high) ≡ joined (n + 1) (λ k. label_words (piece k))
+two_more n piece out within so_far =
+    let one : List ℕ = set out (2 * n) (piece n).low in
     let place : 2 * (n + 1) ≡ (2 * n + 1) + 1 = omega arith in
     let first : 2 * n < length out = omega arith in
-    let second : 2 * n + 1 < length one = omega (arith, length-set out (2 * n) (slice_index (piece n) 0)) in
-    ap (λ (k : ℕ). take k (set one (2 * n + 1) (slice_index (piece n) 1))) place
-    ∙ take_more_set one (2 * n + 1) (slice_index (piece n) 1) second
-    ∙ ap (λ (xs : List ℕ). xs ++ (slice_index (piece n) 1 ∷ [])) (take_more_set out (2 * n) (slice_index (piece n) 0) first)
-    ∙ append_assoc (take (2 * n) out) (slice_index (piece n) 0 ∷ []) (slice_index (piece n) 1 ∷ [])
-    ∙ ap (λ (xs : List ℕ). take (2 * n) out ++ xs) (label_is (piece n) two)
-    ∙ ap (λ (xs : List ℕ). xs ++ piece n) so_far
-    ∙ sym (joined-push n piece)
+    let second : 2 * n + 1 < length one = omega (arith, length-set out (2 * n) (piece n).low) in
+    ap (λ (k : ℕ). take k (set one (2 * n + 1) (piece n).high)) place
+    ∙ take_more_set one (2 * n + 1) (piece n).high second
+    ∙ ap (λ (xs : List ℕ). xs ++ ((piece n).high ∷ [])) (take_more_set out (2 * n) (piece n).low first)
+    ∙ append_assoc (take (2 * n) out) ((piece n).low ∷ []) ((piece n).high ∷ [])
+    ∙ ap (λ (xs : List ℕ). xs ++ label_words (piece n)) so_far
+    ∙ sym (joined-push n (λ k. label_words (piece k)))
 
 -- a piece of one place
 pub one_more : (n v : ℕ) (piece : ℕ → List ℕ) (out : List ℕ) → n < length out → piece n ≡ v ∷ [] → take n out ≡ joined n piece → take (n + 1) (set out n v) ≡ joined (n + 1) piece
@@ -93,6 +90,3 @@ product_is m a b c x y ec ea eb =
 
 pub three_are : (a b c x y z : ℕ) → a ≡ x → b ≡ y → c ≡ z → (a ∷ b ∷ c ∷ []) ≡ (x ∷ y ∷ z ∷ [])
 three_are a b c x y z ea eb ec = ap (λ (u : ℕ). u ∷ b ∷ c ∷ []) ea ∙ ap (λ (u : ℕ). x ∷ u ∷ c ∷ []) eb ∙ ap (λ (u : ℕ). x ∷ y ∷ u ∷ []) ec
-
-pub length-label_mask : (shares : Bool) (chosen : ℕ) (words : List ℕ) (i : ℕ) → length (label_mask shares chosen words i) ≡ 2
-length-label_mask shares chosen words i = length-mask (bit_of chosen i) words (pair_place shares i + 2) (pair_place shares i + 4)

@@ -2,34 +2,34 @@ ghost use Rattle.std.specs.Prelude.{◌≡◌, length};
 ghost use Rattle.hy_bits.specs.declared.turns.Role.TheVariants.{P0, P1};
 ghost use Rattle.rand_core.specs.Stream.{next_u64};
 ghost use Rattle.share_core.specs.Dealing.{choice_after, dealt, drawn};
-ghost use Rattle.share_core.specs.Garbled.{zero_label};
+ghost use Rattle.share_core.specs.Garbled.{no_offset};
 ghost use Rattle.share_core.specs.Instructions.{half_of};
 ghost use Rattle.dealer.specs.Drawing.{left, offset_after, taken};
 
 use crate::halves::{choice_after, half_of, offset_after, words_of};
 use hy_bits::Role;
 use rand_core::Rng;
-use share_core::{Half, Instr};
+use share_core::{Half, Instr, Offset};
 
-/// A dealer over a source of words. It keeps the run's offset, which is zero until it is dealt, and the word of the last
-/// choice.
+/// A dealer of correlated randomness over a source of words. It keeps the run's free-XOR offset, which is `Offset::NONE` until it is
+/// dealt, and the word of P1's last choice.
 #[derive(Drop)]
 pub struct Dealer<R> {
     pub source: R,
-    pub offset: [u64; 2],
+    pub offset: Offset,
     pub chosen: u64,
 }
 
 impl<R: Rng + Drop> Dealer<R> {
-    /// A dealer that has dealt nothing.
+    /// A dealer over `source` that has dealt nothing.
     pub fn new(source: R) -> Dealer<R>
         ensures source { result.source ≡ source }
-        ensures offset { result.offset ≡ zero_label }
+        ensures offset { result.offset ≡ no_offset }
         ensures chosen { result.chosen ≡ 0 }
     {
         Dealer {
             source,
-            offset: [0, 0],
+            offset: Offset::NONE,
             chosen: 0,
         }
     }
@@ -44,7 +44,7 @@ impl<R: Rng + Drop> Dealer<R> {
         self.source.next_u64()
     }
 
-    /// Draws the words of an instruction, or of one gate of a level, and gives P0's half and P1's.
+    /// Draws the words of `instr`, or of it as one gate of a level, and gives P0's half and P1's.
     pub fn next(&mut self, instr: &Instr) -> (Half, Half)
         ensures halves { let i = instr.now in
             let words = taken (drawn i.kind i.width) (R.stream self.old.source) in
@@ -70,7 +70,7 @@ impl<R: Rng + Drop> Dealer<R> {
         halves
     }
 
-    /// Draws as many words as there is room for.
+    /// Draws as many words as `words` has room for.
     fn fill(&mut self, words: &mut [u64])
         ensures words { words.new ≡ taken (length words.old) (R.stream self.old.source) }
         ensures source { R.stream self.new.source ≡ left (length words.old) (R.stream self.old.source) }

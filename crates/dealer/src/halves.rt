@@ -4,16 +4,16 @@ ghost use Rattle.hy_bits.specs.declared.turns.Role.TheVariants.{P0, P1};
 ghost use Rattle.share_core.specs.Boolean.{dealt_B};
 ghost use Rattle.share_core.specs.declared.instr.InstrKind.TheVariants.{AndB, MulA};
 ghost use Rattle.share_core.specs.Dealing.{choice_after, dealt, dealt_masks, dealt_masks_A, drawn};
-ghost use Rattle.share_core.specs.Garbled.{offset_of};
+ghost use Rattle.share_core.specs.Garbled.{offset_of, offset_words};
 ghost use Rattle.share_core.specs.Instructions.{dealt_A, half_of};
 ghost use Rattle.dealer.specs.Drawing.{offset_after};
 
 use crate::masks::{cut, label_masks, word_masks};
 use hy_bits::{Role, Width, mul, sub, truncate};
 use share_bool::BitTriple;
-use share_core::{Half, Instr, InstrKind};
+use share_core::{Half, Instr, InstrKind, Offset};
 
-/// The number of words that are drawn for an instruction, or for one gate of a level.
+/// The number of words that are drawn for `instr`, or for it as one gate of a level.
 pub fn words_of(instr: &Instr) -> u32
     ensures value { result ≡ drawn instr.now.kind instr.now.width }
     ensures few { result ≤ 512 }
@@ -33,8 +33,8 @@ pub fn words_of(instr: &Instr) -> u32
     }
 }
 
-/// The role's half of the words that were drawn for an instruction, or for one gate of a level, `chosen` being the word of
-/// P1's last choice.
+/// The half that `role` has of the words `words` that were drawn for `instr`, or for it as one gate of a level, `chosen` being the
+/// word of P1's last choice.
 pub fn half_of(instr: &Instr, role: Role, chosen: u64, words: &[u64]) -> Half
     requires { length words.now ≡ drawn instr.now.kind instr.now.width }
     ensures { let i = instr.now in
@@ -52,7 +52,7 @@ fn first_half(kind: InstrKind, w: Width, words: &[u64]) -> Half
     ensures { (chosen : ℕ) → result.words ≡ half_of (dealt kind w P0 chosen words.now) }
 {
     match kind {
-        InstrKind::Offset => half_with(&offset_of(words)),
+        InstrKind::Offset => offset_half(words),
         InstrKind::InAP0 => word_with(w, words),
         InstrKind::InBP0 => word_with(w, words),
         InstrKind::InYP0 | InstrKind::AnswerIn => half_with(words),
@@ -84,16 +84,28 @@ fn second_half(kind: InstrKind, w: Width, chosen: u64, words: &[u64]) -> Half
     }
 }
 
-/// The run's offset of two words: the lowest bit of the first is set.
-fn offset_of(words: &[u64]) -> [u64; 2]
+/// P0's half of the offset: its two words.
+fn offset_half(words: &[u64]) -> Half
+    requires { length words.now ≡ 2 }
+    ensures { result.words ≡ half_of (offset_words (offset_of words.now)) }
+{
+    let offset = offset_of(words);
+    half_with(&[offset.low, offset.high])
+}
+
+/// The run's free-XOR offset of two words: the lowest bit of the first is set.
+fn offset_of(words: &[u64]) -> Offset
     requires { length words.now ≡ 2 }
     ensures { result ≡ offset_of words.now }
 {
-    [words[0] / 2 * 2 + 1, words[1]]
+    Offset {
+        low: words[0] / 2 * 2 + 1,
+        high: words[1],
+    }
 }
 
 /// The run's offset after an instruction: a dealt one is new, every other instruction leaves it.
-pub(crate) fn offset_after(instr: &Instr, offset: [u64; 2], words: &[u64]) -> [u64; 2]
+pub(crate) fn offset_after(instr: &Instr, offset: Offset, words: &[u64]) -> Offset
     requires { length words.now ≡ drawn instr.now.kind instr.now.width }
     ensures { result ≡ offset_after instr.now.kind words.now offset }
 {

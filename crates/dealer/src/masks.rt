@@ -5,6 +5,7 @@ ghost use Rattle.share_core.specs.Dealing.{dealt_masks, dealt_masks_A};
 ghost use Rattle.dealer.specs.Drawing.{label_mask, word_mask};
 
 use hy_bits::{Width, truncate};
+use share_core::Label;
 
 /// Writes P1's masks of an answer at Y: for each bit the one of r0 and r1 that the choice's word picks.
 pub(crate) fn label_masks(w: Width, shares: bool, chosen: u64, words: &[u64], out: &mut [u64])
@@ -14,13 +15,13 @@ pub(crate) fn label_masks(w: Width, shares: bool, chosen: u64, words: &[u64], ou
 {
     for i in 0..w.bits() as usize {
         let mask = label_mask(w, shares, chosen, words, i);
-        out[2 * i] = mask[0];
-        out[2 * i + 1] = mask[1];
+        out[2 * i] = mask.low;
+        out[2 * i + 1] = mask.high;
     }
 }
 
 /// P1's mask for bit i of an answer at Y.
-fn label_mask(w: Width, shares: bool, chosen: u64, words: &[u64], i: usize) -> [u64; 2]
+fn label_mask(w: Width, shares: bool, chosen: u64, words: &[u64], i: usize) -> Label
     requires words { length words.now ≡ (if shares then 8 else 6) * bits w }
     requires within { i < bits w }
     ensures { result ≡ label_mask shares chosen words.now i }
@@ -31,7 +32,10 @@ fn label_mask(w: Width, shares: bool, chosen: u64, words: &[u64], i: usize) -> [
     } else {
         zero_mask
     };
-    [words[place], words[place + 1]]
+    Label {
+        low: words[place],
+        high: words[place + 1],
+    }
 }
 
 /// Writes P1's masks of an answer at A: for each bit the one of t0 and t1 that the choice's word picks, as a word.

@@ -1,17 +1,24 @@
 //! Arithmetic shares of words, the sharing A, after ABY (NDSS 2015): two numbers stand for the word that they add up to,
 //! modulo two to the width. No call takes memory.
 //!
-//! `Arith` is the sharing as a `Sharing`: sums, differences, negation and cuts to a narrower width, for which nothing is
-//! sent, and products by a dealt triple. Shares and dealt numbers may be any numbers; what is sent and what a party ends with
-//! are words. `instr_send` and `instr_finish` do one instruction of a plan at A, or one gate of a level: inputs, operations
-//! with constants and openings among them. `share`, `opened` and `add` are for one word at a time.
+//! Shares and dealt numbers may be any numbers; what is sent and what a party ends with are words.
+//!
+//! # Guarantees
+//!
+//! - `Arith` is a secret-sharing scheme: the two shares after an operation stand for its value. Sums, differences, negation and cuts
+//!   to a narrower width send nothing; a product takes a Beaver triple (`src/arith.rt`; read `src/sharing.rt` of share_core, then
+//!   `specs/Operations.antt`).
+//! - `instr_send` and `instr_finish` do one party's part of an instruction of a plan at A, or of one gate of a level: inputs,
+//!   operations with constants and openings among them; `instr_sent` is how many bytes it sends (`src/instructions.rt`; read
+//!   `specs/Instructions.antt` of share_core, whose `instr_law` says what the shares stand for).
+//! - `share` splits a word by a dealt one, `opened` gives back the word that two shares stand for, and `add` one party's share of a sum
+//!   (`src/words.rt`; read `specs/Arithmetic.antt` of share_core).
 //!
 //! | definitions | of |
 //! |---|---|
 //! | `specs/Operations.antt` | the operations: their values, messages and new shares, and which triples agree |
 //! | `specs/Law.antt` | the laws of the sharing, with their proofs by cases |
 //!
-//! What two shares stand for, and each formula, stand in share_core's `specs/Arithmetic.antt` and `specs/Instructions.antt`.
 //! `proofs/Laws.antt` has what callers of `share`, `opened` and `add` need: shares that are added share by share stand for
 //! the sum.
 #![tactic(auto)]
@@ -23,6 +30,3 @@ mod words;
 pub use arith::{Arith, ArithOp, Triple};
 pub use instructions::{instr_finish, instr_send, instr_sent};
 pub use words::{add, opened, share};
-
-#[cfg(test)]
-mod tests;

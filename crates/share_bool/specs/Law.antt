@@ -4,7 +4,8 @@ use Rattle.std.proofs.Common.{◌≡◌, ℕ, Bool, bit_and, bit_xor, length, re
 use Rattle.hy_bits.specs.declared.turns.Role.TheVariants.{P0, P1}
 use Rattle.hy_bits.specs.Bits.{bit, xor}
 use Rattle.share_core.specs.Boolean.{StandFor}
-use Rattle.share_core.proofs.BooleanLaws.{and_law, xor-pairs, and-bits, xor-bits}
+use Rattle.share_core.proofs.BooleanLaws.{and_law, xor-pairs, and-bits}
+use Rattle.hy_bits.proofs.BitLaws.{xor-bits}
 use Rattle.share_bool.specs.declared.boole.BoolOp.{BoolOp}
 use Rattle.share_bool.specs.declared.boole.BoolOp.TheVariants.{And, Xor}
 use Rattle.share_bool.specs.declared.boole.BitTriple.{BitTriple}

@@ -10,7 +10,8 @@ use hy_bits::{Width, add, sub, truncate};
 use share_core::{Half, byte_count, read_number, write_number};
 use share_yao::bit_of;
 
-/// P0's answer at A to the choice: for each bit the two words, masked. It gives P0's share, the sum of what it kept.
+/// Writes P0's answer in words to `chosen` into `out`, by oblivious transfers: for each bit two words, masked, of which P1 gets one.
+/// It gives P0's share at A, the sum of what it kept.
 pub fn answer_a_send(w: Width, chosen: Chosen, own: u64, dealt: &Half, out: &mut [u8]) -> u64
     requires { length out.old ≡ answer_sent_A w }
     ensures message { out.new ≡ answer_message_A w own chosen.bits dealt.now.words }
@@ -26,7 +27,7 @@ pub fn answer_a_send(w: Width, chosen: Chosen, own: u64, dealt: &Half, out: &mut
     kept(w, dealt)
 }
 
-/// P1's share from P0's answer at A: the sum of the words for its bits, unmasked.
+/// P1's share at A from P0's answer `inbox` in words: the sum of the words for its bits, unmasked.
 pub fn answer_a_finish(w: Width, chosen: Chosen, dealt: &Half, inbox: &[u8]) -> u64
     requires { length inbox.now ≡ answer_sent_A w }
     ensures value { result ≡ answer_share_A P1 w chosen.bits dealt.now.words inbox.now }

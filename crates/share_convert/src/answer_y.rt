@@ -8,7 +8,7 @@ ghost use Rattle.share_convert.specs.Answers.{is_of_shares, own_share};
 
 use crate::choice::Chosen;
 use hy_bits::Width;
-use share_core::Half;
+use share_core::{Half, Label, Offset};
 use share_yao::{
     Labels, bit_of, dealt_label, label_for, label_xor, put_label, read_label, write_label,
 };
@@ -21,12 +21,13 @@ pub struct Wires {
     pub b: Labels,
 }
 
-/// P0's answer at Y to the choice: for shares the labels of P0's own share, and for each bit the two labels of the wire, masked.
+/// Writes P0's answer in labels to `chosen` into `out`, by oblivious transfers: for shares first the labels of P0's own share `own`, then
+/// for each bit the two labels of the wire, masked. It gives P0's own zero labels. For an input of P1 `own` is None.
 pub fn answer_y_send(
     w: Width,
     chosen: Chosen,
     own: Option<u64>,
-    offset: [u64; 2],
+    offset: Offset,
     dealt: &Half,
     out: &mut [u8],
 ) -> Wires
@@ -60,7 +61,8 @@ pub fn answer_y_send(
     }
 }
 
-/// P1's labels from P0's answer at Y: for shares those of P0's share, as they are sent, and those of P1's own word, each from the pair for its bit.
+/// P1's labels from P0's answer `inbox` in labels: where `shares` is true those of P0's share, as they are sent, and those of P1's own
+/// word, each from the pair for its bit.
 pub fn answer_y_finish(w: Width, chosen: Chosen, shares: bool, dealt: &Half, inbox: &[u8]) -> Wires
     requires { length inbox.now ≡ answer_sent shares w }
     ensures a { (i : ℕ) → i < bits w →
@@ -84,7 +86,7 @@ pub fn answer_y_finish(w: Width, chosen: Chosen, shares: bool, dealt: &Half, inb
 }
 
 /// Writes the labels of P0's own share, one for each bit.
-fn own_send(w: Width, own: u64, offset: [u64; 2], half: &Half, out: &mut [u8])
+fn own_send(w: Width, own: u64, offset: Offset, half: &Half, out: &mut [u8])
     requires { length out.old ≡ 16 * bits w }
     ensures { out.new ≡ joined (bits w) (λ i. share_piece offset own half.now.words i) }
 {
@@ -95,7 +97,7 @@ fn own_send(w: Width, own: u64, offset: [u64; 2], half: &Half, out: &mut [u8])
 }
 
 /// Writes for each bit the pair of labels for P1's word.
-fn pairs_send(w: Width, shares: bool, d: u64, offset: [u64; 2], half: &Half, out: &mut [u8])
+fn pairs_send(w: Width, shares: bool, d: u64, offset: Offset, half: &Half, out: &mut [u8])
     requires { length out.old ≡ 32 * bits w }
     ensures { out.new ≡ joined (bits w) (λ i. pair_piece shares offset d half.now.words i) }
 {
@@ -108,7 +110,7 @@ fn pairs_send(w: Width, shares: bool, d: u64, offset: [u64; 2], half: &Half, out
 
 /// Writes the pair of bit i: the label for 0 masked by r0 and the one for 1 by r1, or the other way about where the choice's
 /// bit is 1.
-fn pair_send(shares: bool, d: u64, offset: [u64; 2], half: &Half, i: usize, out: &mut [u8])
+fn pair_send(shares: bool, d: u64, offset: Offset, half: &Half, i: usize, out: &mut [u8])
     requires within { i < 64 }
     requires room { length out.old ≡ 32 }
     ensures { out.new ≡ pair_piece shares offset d half.now.words i }
@@ -120,14 +122,14 @@ fn pair_send(shares: bool, d: u64, offset: [u64; 2], half: &Half, i: usize, out:
     let turned = bit_of(d, i);
     let (first, second) = out.split_at_mut(16);
     let for_zero = label_xor(zero, pick(turned, first_mask, second_mask));
-    let one = label_xor(zero, offset);
+    let one = label_for(offset, zero, true);
     let for_one = label_xor(one, pick(turned, second_mask, first_mask));
     write_label(for_zero, first);
     write_label(for_one, second);
 }
 
 /// The one of two labels that the bit picks.
-fn pick(bit: bool, none: [u64; 2], one: [u64; 2]) -> [u64; 2]
+fn pick(bit: bool, none: Label, one: Label) -> Label
     ensures { result ≡ pick bit none one }
 {
     if bit { one } else { none }
@@ -199,7 +201,7 @@ fn picked_labels(w: Width, x: u64, half: &Half, pairs: &[u8]) -> Labels
 }
 
 /// The label of a pair that the bit picks, unmasked.
-fn picked_label(x: bool, mask: [u64; 2], pair: &[u8]) -> [u64; 2]
+fn picked_label(x: bool, mask: Label, pair: &[u8]) -> Label
     requires { 32 ≤ length pair.now }
     ensures value { result ≡ picked_label x mask pair.now }
     ensures label { IsLabel result }

@@ -14,7 +14,7 @@ pub struct Chosen {
     pub picks: u64,
 }
 
-/// Writes P1's choice for its word x, masked by the dealt word c.
+/// Writes P1's choice in the transfers of its word `x` into `out`, masked by the dealt word `c`, and gives what P1 keeps.
 pub fn choose_send(w: Width, x: u64, c: u64, out: &mut [u8]) -> Chosen
     requires { length out.old ≡ byte_count w }
     ensures message { out.new ≡ choice_message w x c }
@@ -28,7 +28,7 @@ pub fn choose_send(w: Width, x: u64, c: u64, out: &mut [u8]) -> Chosen
     }
 }
 
-/// P0 reads the choice. Bits of its bytes beyond the width aren't looked at.
+/// What P0 keeps of the choice in `inbox`. Bits of its bytes past the width aren't looked at.
 pub fn choose_finish(w: Width, inbox: &[u8]) -> Chosen
     requires { length inbox.now ≡ byte_count w }
     ensures bits { result.bits ≡ choice_read w inbox.now }

@@ -9,6 +9,7 @@ use Rattle.hy_bits.specs.declared.width.Width.TheVariants.{W1, W8, W16, W32, W64
 use Rattle.hy_bits.specs.declared.turns.Role.TheVariants.{P0, P1}
 use Rattle.hy_bits.specs.Bits.{bit, xor}
 use Rattle.hy_bits.specs.Words.{bits, modulus}
+use Rattle.hy_bits.proofs.BitLaws.{bit-odd, xor-bits}
 use Rattle.hy_bits.proofs.WordLaws.{modulus_pos}
 use Rattle.share_core.specs.declared.instr.InstrKind.TheVariants.{InBP0, InBP1, AndB, XorB, OpenB}
 use Rattle.share_core.specs.Bytes.{bytes, number, byte_count}
@@ -88,25 +89,16 @@ and_law x0 x1 y0 y1 a0 b0 c0 a1 b1 c1 triple =
 
 -- ---- words
 
-pub bit_odd : (x : ℕ) → bit (odd x) ≡ x % 2
-bit_odd x = grind arith
-
 pub and-bits : (x y : Bool) → bit_and (bit x) (bit y) ≡ bit (x && y)
 and-bits true true = refl
 and-bits true false = refl
 and-bits false true = refl
 and-bits false false = refl
 
-pub xor-bits : (x y : Bool) → bit_xor (bit x) (bit y) ≡ bit (xor x y)
-xor-bits true true = refl
-xor-bits true false = refl
-xor-bits false true = refl
-xor-bits false false = refl
-
 pub odd-xor : (x y : ℕ) → odd (bit_xor x y) ≡ xor (odd x) (odd y)
 odd-xor x y =
     let parity : bit_xor x y % 2 ≡ bit_xor (x % 2) (y % 2) = xor_mod x y 1 in
-    let both : bit_xor (x % 2) (y % 2) ≡ bit (xor (odd x) (odd y)) = ap (λ (u : ℕ). bit_xor u (y % 2)) (sym (bit_odd x)) ∙ ap (λ (u : ℕ). bit_xor (bit (odd x)) u) (sym (bit_odd y)) ∙ xor-bits (odd x) (odd y) in
+    let both : bit_xor (x % 2) (y % 2) ≡ bit (xor (odd x) (odd y)) = ap (λ (u : ℕ). bit_xor u (y % 2)) (sym (bit-odd x)) ∙ ap (λ (u : ℕ). bit_xor (bit (odd x)) u) (sym (bit-odd y)) ∙ xor-bits (odd x) (odd y) in
     ap (λ (u : ℕ). u == 1) (parity ∙ both) ∙ bit-is_one (xor (odd x) (odd y))
 
 parity-word : (w : Width.Width) (x : ℕ) → x % modulus w % 2 ≡ x % 2
@@ -119,7 +111,7 @@ parity-word W64 x = mod-mod-pow x 63 1
 pub odd-and : (x y : ℕ) → odd (bit_and x y) ≡ (odd x && odd y)
 odd-and x y =
     let parity : bit_and x y % 2 ≡ bit_and (x % 2) (y % 2) = and_mod x y 1 in
-    let both : bit_and (x % 2) (y % 2) ≡ bit (odd x && odd y) = ap (λ (u : ℕ). bit_and u (y % 2)) (sym (bit_odd x)) ∙ ap (λ (u : ℕ). bit_and (bit (odd x)) u) (sym (bit_odd y)) ∙ and-bits (odd x) (odd y) in
+    let both : bit_and (x % 2) (y % 2) ≡ bit (odd x && odd y) = ap (λ (u : ℕ). bit_and u (y % 2)) (sym (bit-odd x)) ∙ ap (λ (u : ℕ). bit_and (bit (odd x)) u) (sym (bit-odd y)) ∙ and-bits (odd x) (odd y) in
     ap (λ (u : ℕ). u == 1) (parity ∙ both) ∙ bit-is_one (odd x && odd y)
 
 pub odd-word : (w : Width.Width) (x : ℕ) → odd (x % modulus w) ≡ odd x
@@ -194,10 +186,10 @@ triple_dealt : (a b a0 b0 c0 : Bool) → IsBitTriple a0 b0 c0 (xor a a0) (xor b 
 triple_dealt a b a0 b0 c0 = grind arith
 
 pub dealt_halves_agree_B : DealtHalvesAgreeB
-dealt_halves_agree_B AndB w drawn =
+dealt_halves_agree_B AndB w drawn are =
     let bits : ℕ = slice_index drawn 0 in
     simp odd-bit (triple_dealt (bit_of bits 0) (bit_of bits 1) (bit_of bits 2) (bit_of bits 3) (bit_of bits 4))
-dealt_halves_agree_B _ w drawn = tt
+dealt_halves_agree_B _ w drawn are = tt
 
 -- ---- codes
 

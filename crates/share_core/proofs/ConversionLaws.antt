@@ -10,18 +10,20 @@ use Rattle.hy_bits.specs.declared.turns.Role.TheVariants.{P0, P1}
 use Rattle.hy_bits.specs.Bits.{bit, xor, sum_bit, next_carry}
 use Rattle.hy_bits.specs.Words.{bits, modulus}
 use Rattle.hy_bits.proofs.WordLaws.{modulus_pos}
-use Rattle.hy_bits.proofs.BitLaws.{bit-lt, sum_bit-next_carry}
+use Rattle.hy_bits.proofs.BitLaws.{bit-lt, bit-odd, sum_bit-next_carry}
+use Rattle.share_core.specs.declared.labels.Label.{Label}
+use Rattle.share_core.specs.declared.labels.Offset.{Offset}
 use Rattle.share_core.specs.Bytes.{bytes, number, byte_count}
 use Rattle.share_core.specs.Boolean.{odd, bit_of, xor_of}
-use Rattle.share_core.specs.Garbled.{IsLabel, IsOffset, LabelsStandFor, WordStands, and_share_Y, dealt_label, joined, label_bytes, label_for, label_of, label_xor, low_word, word_of_bits, zero_label}
+use Rattle.share_core.specs.Garbled.{IsLabel, IsOffset, LabelsStandFor, WordStands, and_share_Y, dealt_label, joined, label_bytes, label_for, label_of, label_words, label_xor, low_word, no_offset, word_of_bits}
 use Rattle.share_core.specs.declared.instr.InstrKind.TheVariants.{AnswerIn, AnswerSharesA, AnswerSharesB, AnswerToA}
 use Rattle.share_core.specs.Instructions.{half_of}
 use Rattle.share_core.specs.Dealing.{AnswersAreDealt, dealt_masks, dealt_masks_A}
 use Rattle.share_core.specs.Conversions.{MasksAgree, MasksAgreeA, answer_message_A, answer_sent_A, picked_word, word_piece, worth, TransferOpens, OwnOpens, SumOpens, B2Y, A2Y, A2B, B2A, Y2A, added, joined_label, answer_label, answer_message, answer_sent, pairs_begin, carries_message, carry_at, carry_label, carry_rows, choice_message, choice_read, own_label, pair_message, pair_piece, pair_place, pick, picked_label, share_piece, sum_over}
 use Rattle.share_core.proofs.ByteLaws.{drop_front, length-bytes, number-word_bytes, take_front}
 use Rattle.share_core.proofs.ArithmeticLaws.{difference-add}
-use Rattle.share_core.proofs.BooleanLaws.{bit_odd, odd-xor, xor_mod_both}
-use Rattle.share_core.proofs.GarbledLaws.{dealt-is, xor_cancel_right, and_opens-before, and_share-is, length-and_rows, low_bits_stand, word_of_bits-of, word_of_bits-same, for-is, joined-at, label_read, length-joined, length-label, pair_is, xor-is, xor_opens_Y}
+use Rattle.share_core.proofs.BooleanLaws.{odd-xor, xor_mod_both}
+use Rattle.share_core.proofs.GarbledLaws.{dealt-is, xor_cancel_right, and_opens-before, and_share-is, length-and_rows, low_bits_stand, word_of_bits-of, word_of_bits-same, for-is, joined-at, label_read, length-joined, length-label, label_is, xor-is, xor_opens_Y}
 
 -- ---- bits of words
 
@@ -54,67 +56,67 @@ choice_bit w x c i within = ap (λ (u : ℕ). bit_of u i) (choice_is w x c) ∙ 
 
 -- ---- one transfer of a label
 
-pick-is : (b : Bool) (r0 r1 : List ℕ) → IsLabel r0 → IsLabel r1 → IsLabel (pick b r0 r1)
+pick-is : (b : Bool) (r0 r1 : Label) → IsLabel r0 → IsLabel r1 → IsLabel (pick b r0 r1)
 pick-is true r0 r1 is0 is1 = is1
 pick-is false r0 r1 is0 is1 = is0
 
-pick_other : (c : Bool) (r0 r1 : List ℕ) → pick (not c) r1 r0 ≡ pick c r0 r1
+pick_other : (c : Bool) (r0 r1 : Label) → pick (not c) r1 r0 ≡ pick c r0 r1
 pick_other true r0 r1 = refl
 pick_other false r0 r1 = refl
 
-first_read : (offset none r0 r1 rest : List ℕ) (d : Bool) → IsLabel none → IsLabel r0 → IsLabel r1 → label_of (pair_message offset none r0 r1 d ++ rest) ≡ label_xor none (pick d r0 r1)
+first_read : (offset : Offset) (none r0 r1 : Label) (rest : List ℕ) (d : Bool) → IsLabel none → IsLabel r0 → IsLabel r1 → label_of (pair_message offset none r0 r1 d ++ rest) ≡ label_xor none (pick d r0 r1)
 first_read offset none r0 r1 rest d is is0 is1 =
-    let first : List ℕ = label_xor none (pick d r0 r1) in
-    let second : List ℕ = label_xor (label_xor none offset) (pick d r1 r0) in
+    let first : Label = label_xor none (pick d r0 r1) in
+    let second : Label = label_xor (label_for offset none true) (pick d r1 r0) in
     ap label_of (append_assoc (label_bytes first) (label_bytes second) rest) ∙ label_read first (label_bytes second ++ rest) (xor-is none (pick d r0 r1) is (pick-is d r0 r1 is0 is1))
 
-second_read : (offset none r0 r1 rest : List ℕ) (d : Bool) → IsLabel offset → IsLabel none → IsLabel r0 → IsLabel r1 → label_of (drop 16 (pair_message offset none r0 r1 d ++ rest)) ≡ label_xor (label_xor none offset) (pick d r1 r0)
+second_read : (offset : Offset) (none r0 r1 : Label) (rest : List ℕ) (d : Bool) → IsOffset offset → IsLabel none → IsLabel r0 → IsLabel r1 → label_of (drop 16 (pair_message offset none r0 r1 d ++ rest)) ≡ label_xor (label_for offset none true) (pick d r1 r0)
 second_read offset none r0 r1 rest d is_offset is is0 is1 =
-    let first : List ℕ = label_xor none (pick d r0 r1) in
-    let second : List ℕ = label_xor (label_xor none offset) (pick d r1 r0) in
+    let first : Label = label_xor none (pick d r0 r1) in
+    let second : Label = label_xor (label_for offset none true) (pick d r1 r0) in
     ap (λ (bs : List ℕ). label_of (drop 16 bs)) (append_assoc (label_bytes first) (label_bytes second) rest)
     ∙ ap label_of (drop_front 16 (label_bytes first) (label_bytes second ++ rest) (length-label first))
-    ∙ label_read second rest (xor-is (label_xor none offset) (pick d r1 r0) (xor-is none offset is is_offset) (pick-is d r1 r0 is1 is0))
+    ∙ label_read second rest (xor-is (label_for offset none true) (pick d r1 r0) (for-is offset none true is_offset is) (pick-is d r1 r0 is1 is0))
 
-pub pair_opens : (offset none r0 r1 mask rest : List ℕ) (x c d : Bool) → IsLabel offset → IsLabel none → IsLabel r0 → IsLabel r1 → mask ≡ pick c r0 r1 → d ≡ xor x c →
+pub pair_opens : (offset : Offset) (none r0 r1 mask : Label) (rest : List ℕ) (x c d : Bool) → IsOffset offset → IsLabel none → IsLabel r0 → IsLabel r1 → mask ≡ pick c r0 r1 → d ≡ xor x c →
     picked_label x mask (pair_message offset none r0 r1 d ++ rest) ≡ label_for offset none x
 pair_opens offset none r0 r1 mask rest false c d is_offset is is0 is1 em ed =
-    let m : List ℕ = pick c r0 r1 in
-    ap (λ (u : List ℕ). label_xor u mask) (first_read offset none r0 r1 rest d is is0 is1)
+    let m : Label = pick c r0 r1 in
+    ap (λ (u : Label). label_xor u mask) (first_read offset none r0 r1 rest d is is0 is1)
     ∙ ap (λ (u : Bool). label_xor (label_xor none (pick u r0 r1)) mask) ed
-    ∙ ap (λ (u : List ℕ). label_xor (label_xor none m) u) em
-    ∙ pair_is _ _ _ _ (xor_cancel_right (slice_index none 0) (slice_index m 0) ∙ sym (xor_zero_r (slice_index none 0))) (xor_cancel_right (slice_index none 1) (slice_index m 1) ∙ sym (xor_zero_r (slice_index none 1)))
+    ∙ ap (λ (u : Label). label_xor (label_xor none m) u) em
+    ∙ label_is _ _ _ _ (xor_cancel_right none.low m.low ∙ sym (xor_zero_r none.low)) (xor_cancel_right none.high m.high ∙ sym (xor_zero_r none.high))
 pair_opens offset none r0 r1 mask rest true c d is_offset is is0 is1 em ed =
-    let m : List ℕ = pick c r0 r1 in
-    let one : List ℕ = label_xor none offset in
-    ap (λ (u : List ℕ). label_xor u mask) (second_read offset none r0 r1 rest d is_offset is is0 is1)
+    let m : Label = pick c r0 r1 in
+    let one : Label = label_for offset none true in
+    ap (λ (u : Label). label_xor u mask) (second_read offset none r0 r1 rest d is_offset is is0 is1)
     ∙ ap (λ (u : Bool). label_xor (label_xor one (pick u r1 r0)) mask) ed
-    ∙ ap (λ (u : List ℕ). label_xor (label_xor one u) mask) (pick_other c r0 r1)
-    ∙ ap (λ (u : List ℕ). label_xor (label_xor one m) u) em
-    ∙ pair_is _ _ _ _ (xor_cancel_right (slice_index one 0) (slice_index m 0)) (xor_cancel_right (slice_index one 1) (slice_index m 1))
+    ∙ ap (λ (u : Label). label_xor (label_xor one u) mask) (pick_other c r0 r1)
+    ∙ ap (λ (u : Label). label_xor (label_xor one m) u) em
+    ∙ label_is _ _ _ _ (xor_cancel_right one.low m.low) (xor_cancel_right one.high m.high)
 
 -- ---- transfers of words
 
-pub length-pair : (offset none r0 r1 : List ℕ) (d : Bool) → length (pair_message offset none r0 r1 d) ≡ 32
+pub length-pair : (offset : Offset) (none r0 r1 : Label) (d : Bool) → length (pair_message offset none r0 r1 d) ≡ 32
 length-pair offset none r0 r1 d =
-    length-append (label_bytes (label_xor none (pick d r0 r1))) (label_bytes (label_xor (label_xor none offset) (pick d r1 r0)))
-    ∙ omega (arith, length-label (label_xor none (pick d r0 r1)), length-label (label_xor (label_xor none offset) (pick d r1 r0)))
+    length-append (label_bytes (label_xor none (pick d r0 r1))) (label_bytes (label_xor (label_for offset none true) (pick d r1 r0)))
+    ∙ omega (arith, length-label (label_xor none (pick d r0 r1)), length-label (label_xor (label_for offset none true) (pick d r1 r0)))
 
-length-shares : (w : Width.Width) (offset : List ℕ) (own : ℕ) (half : List ℕ) → length (joined (bits w) (λ i. share_piece offset own half i)) ≡ 16 * bits w
+length-shares : (w : Width.Width) (offset : Offset) (own : ℕ) (half : List ℕ) → length (joined (bits w) (λ i. share_piece offset own half i)) ≡ 16 * bits w
 length-shares w offset own half = length-joined 16 (bits w) (λ i. share_piece offset own half i) (λ i. length-label (label_for offset (dealt_label half (8 * i)) (bit_of own i)))
 
-length-pairs : (shares : Bool) (w : Width.Width) (offset : List ℕ) (d : ℕ) (half : List ℕ) → length (joined (bits w) (λ i. pair_piece shares offset d half i)) ≡ 32 * bits w
+length-pairs : (shares : Bool) (w : Width.Width) (offset : Offset) (d : ℕ) (half : List ℕ) → length (joined (bits w) (λ i. pair_piece shares offset d half i)) ≡ 32 * bits w
 length-pairs shares w offset d half =
     length-joined 32 (bits w) (λ i. pair_piece shares offset d half i)
     (λ i. length-pair offset (dealt_label half (pair_place shares i)) (dealt_label half (pair_place shares i + 2)) (dealt_label half (pair_place shares i + 4)) (bit_of d i))
 
-pub length-answer : (shares : Bool) (w : Width.Width) (offset : List ℕ) (own d : ℕ) (half : List ℕ) → length (answer_message shares w offset own d half) ≡ answer_sent shares w
+pub length-answer : (shares : Bool) (w : Width.Width) (offset : Offset) (own d : ℕ) (half : List ℕ) → length (answer_message shares w offset own d half) ≡ answer_sent shares w
 length-answer false w offset own d half = length-pairs false w offset d half
 length-answer true w offset own d half =
     length-append (joined (bits w) (λ i. share_piece offset own half i)) (joined (bits w) (λ i. pair_piece true offset d half i))
     ∙ omega (arith, length-shares w offset own half, length-pairs true w offset d half)
 
-pairs_are : (shares : Bool) (w : Width.Width) (offset : List ℕ) (own d : ℕ) (half : List ℕ) → drop (pairs_begin shares w) (answer_message shares w offset own d half) ≡ joined (bits w) (λ i. pair_piece shares offset d half i)
+pairs_are : (shares : Bool) (w : Width.Width) (offset : Offset) (own d : ℕ) (half : List ℕ) → drop (pairs_begin shares w) (answer_message shares w offset own d half) ≡ joined (bits w) (λ i. pair_piece shares offset d half i)
 pairs_are false w offset own d half = refl
 pairs_are true w offset own d half = drop_front (16 * bits w) (joined (bits w) (λ i. share_piece offset own half i)) (joined (bits w) (λ i. pair_piece true offset d half i)) (length-shares w offset own half)
 
@@ -122,22 +124,22 @@ pub transfer_opens : TransferOpens
 transfer_opens shares w offset own x c half0 half1 is_offset words agree i within =
     let d : ℕ = choice_read w (choice_message w x c) in
     let place : ℕ = pair_place shares i in
-    let mask : List ℕ = dealt_label half1 (2 * i) in
+    let mask : Label = dealt_label half1 (2 * i) in
     let found = joined-at 32 (bits w) i (λ k. pair_piece shares offset d half0 k) within (λ k. length-pair offset (dealt_label half0 (pair_place shares k)) (dealt_label half0 (pair_place shares k + 2)) (dealt_label half0 (pair_place shares k + 4)) (bit_of d k)) in
     ap (λ (bs : List ℕ). picked_label (bit_of x i) mask (drop (32 * i) bs)) (pairs_are shares w offset own d half0)
     ∙ ap (λ (bs : List ℕ). picked_label (bit_of x i) mask bs) found.1
     ∙ pair_opens offset (dealt_label half0 place) (dealt_label half0 (place + 2)) (dealt_label half0 (place + 4)) mask found.0 (bit_of x i) (bit_of c i) (bit_of d i)
-    is_offset.0 (dealt-is half0 place words) (dealt-is half0 (place + 2) words) (dealt-is half0 (place + 4) words) (agree i within) (choice_bit w x c i within)
+    is_offset (dealt-is half0 place words) (dealt-is half0 (place + 2) words) (dealt-is half0 (place + 4) words) (agree i within) (choice_bit w x c i within)
 
 pub own_opens : OwnOpens
 own_opens w offset own d half0 half1 is_offset words i within =
     let shares : List ℕ = joined (bits w) (λ k. share_piece offset own half0 k) in
     let pairs : List ℕ = joined (bits w) (λ k. pair_piece true offset d half0 k) in
-    let sent : List ℕ = label_for offset (dealt_label half0 (8 * i)) (bit_of own i) in
+    let sent : Label = label_for offset (dealt_label half0 (8 * i)) (bit_of own i) in
     let found = joined-at 16 (bits w) i (λ k. share_piece offset own half0 k) within (λ k. length-label (label_for offset (dealt_label half0 (8 * k)) (bit_of own k))) in
     let inside : 16 * i ≤ length shares = omega (arith, length-shares w offset own half0) in
     ap label_of (drop-append-le (16 * i) shares pairs inside ∙ ap (λ (bs : List ℕ). bs ++ pairs) found.1 ∙ append_assoc (label_bytes sent) found.0 pairs)
-    ∙ label_read sent (found.0 ++ pairs) (for-is offset (dealt_label half0 (8 * i)) (bit_of own i) is_offset.0 (dealt-is half0 (8 * i) words))
+    ∙ label_read sent (found.0 ++ pairs) (for-is offset (dealt_label half0 (8 * i)) (bit_of own i) is_offset (dealt-is half0 (8 * i) words))
 
 -- ---- sums, bit by bit
 
@@ -150,7 +152,7 @@ halved : (x i : ℕ) → x / 2 ^ suc i ≡ x / 2 ^ i / 2
 halved x i = ap (λ (k : ℕ). x / k) (pow-suc 2 i) ∙ sym (div-div-eq-div-mul x (2 ^ i) 2)
 
 half_sum : (x y : ℕ) (c : Bool) → (x + y + bit c) / 2 ≡ x / 2 + y / 2 + bit (next_carry (odd x) (odd y) c)
-half_sum x y c = omega (arith, bit_odd x, bit_odd y, sum_bit-next_carry (odd x) (odd y) c, bit-lt (sum_bit (odd x) (odd y) c))
+half_sum x y c = omega (arith, bit-odd x, bit-odd y, sum_bit-next_carry (odd x) (odd y) c, bit-lt (sum_bit (odd x) (odd y) c))
 
 -- the quotients add up, with the carry
 quotients : (x y i : ℕ) → (x + y) / 2 ^ i ≡ x / 2 ^ i + y / 2 ^ i + bit (carry x y i)
@@ -169,7 +171,7 @@ odd_of_bit false = refl
 
 parity_of_sum : (x y : ℕ) (c : Bool) → odd (x + y + bit c) ≡ xor (xor (odd x) (odd y)) c
 parity_of_sum x y c =
-    let parity : (x + y + bit c) % 2 ≡ bit (sum_bit (odd x) (odd y) c) = omega (arith, bit_odd x, bit_odd y, sum_bit-next_carry (odd x) (odd y) c, bit-lt (sum_bit (odd x) (odd y) c)) in
+    let parity : (x + y + bit c) % 2 ≡ bit (sum_bit (odd x) (odd y) c) = omega (arith, bit-odd x, bit-odd y, sum_bit-next_carry (odd x) (odd y) c, bit-lt (sum_bit (odd x) (odd y) c)) in
     ap (λ (u : ℕ). u == 1) parity ∙ odd_of_bit (sum_bit (odd x) (odd y) c)
 
 pub bit_of-sum : (x y i : ℕ) → bit_of (x + y) i ≡ xor (xor (bit_of x i) (bit_of y i)) (carry x y i)
@@ -177,56 +179,57 @@ bit_of-sum x y i = ap odd (quotients x y i) ∙ parity_of_sum (x / 2 ^ i) (y / 2
 
 -- ---- carries at Y
 
-length-carry : (offset : List ℕ) (g : ℕ) (a b c : List ℕ) → length (carry_rows offset g a b c) ≡ 32
+length-carry : (offset : Offset) (g : ℕ) (a b c : Label) → length (carry_rows offset g a b c) ≡ 32
 length-carry offset g a b c = length-and_rows offset g (label_xor a c) (label_xor b c)
 
 -- one carry, with its rows at the head of what P1 has
-pub carry_opens : (offset : List ℕ) (g : ℕ) (a0 a1 b0 b1 c0 c1 rest : List ℕ) (x y z : Bool) → IsOffset offset → IsLabel a0 → IsLabel c0 → LabelsStandFor offset a0 a1 x → LabelsStandFor offset b0 b1 y → LabelsStandFor offset c0 c1 z →
-    LabelsStandFor offset (carry_label P0 offset g a0 b0 c0 []) (carry_label P1 zero_label g a1 b1 c1 (carry_rows offset g a0 b0 c0 ++ rest)) (next_carry x y z)
+pub carry_opens : (offset : Offset) (g : ℕ) (a0 a1 b0 b1 c0 c1 : Label) (rest : List ℕ) (x y z : Bool) → IsOffset offset → IsLabel a0 → IsLabel c0 → LabelsStandFor offset a0 a1 x → LabelsStandFor offset b0 b1 y → LabelsStandFor offset c0 c1 z →
+    LabelsStandFor offset (carry_label P0 offset g a0 b0 c0 []) (carry_label P1 no_offset g a1 b1 c1 (carry_rows offset g a0 b0 c0 ++ rest)) (next_carry x y z)
 carry_opens offset g a0 a1 b0 b1 c0 c1 rest x y z is_offset is_a is_c ea eb ec =
-    xor_opens_Y offset c0 c1 (and_share_Y P0 offset g (label_xor a0 c0) (label_xor b0 c0) []) (and_share_Y P1 zero_label g (label_xor a1 c1) (label_xor b1 c1) (carry_rows offset g a0 b0 c0 ++ rest)) z (xor x z && xor y z) ec
+    xor_opens_Y offset c0 c1 (and_share_Y P0 offset g (label_xor a0 c0) (label_xor b0 c0) []) (and_share_Y P1 no_offset g (label_xor a1 c1) (label_xor b1 c1) (carry_rows offset g a0 b0 c0 ++ rest)) z (xor x z && xor y z) ec
     (and_opens-before offset g (label_xor a0 c0) (label_xor a1 c1) (label_xor b0 c0) (label_xor b1 c1) rest (xor x z) (xor y z) is_offset (xor-is a0 c0 is_a is_c) (xor_opens_Y offset a0 a1 c0 c1 x z ea ec) (xor_opens_Y offset b0 b1 c0 c1 y z eb ec))
 
-carry_at-is : (offset : List ℕ) (g i : ℕ) (a b : ℕ → List ℕ) → IsLabel offset → ((k : ℕ) → IsLabel (a k)) → ((k : ℕ) → IsLabel (b k)) → IsLabel (carry_at P0 offset g a b [] i)
+-- P0's carries are labels, whatever it has received
+pub carry_at-first : (offset : Offset) (g i : ℕ) (a b : ℕ → Label) (inbox : List ℕ) → IsOffset offset → ((k : ℕ) → IsLabel (a k)) → ((k : ℕ) → IsLabel (b k)) → IsLabel (carry_at P0 offset g a b inbox i)
 unfolding carry_at
-carry_at-is offset g zero a b is_offset is_a is_b = (refl, omega arith, omega arith)
-carry_at-is offset g (suc i) a b is_offset is_a is_b =
-    let c : List ℕ = carry_at P0 offset g a b [] i in
-    let is_c : IsLabel c = carry_at-is offset g i a b is_offset is_a is_b in
+carry_at-first offset g zero a b inbox is_offset is_a is_b = (omega arith, omega arith)
+carry_at-first offset g (suc i) a b inbox is_offset is_a is_b =
+    let c : Label = carry_at P0 offset g a b inbox i in
+    let is_c : IsLabel c = carry_at-first offset g i a b inbox is_offset is_a is_b in
     xor-is c (and_share_Y P0 offset (g + i) (label_xor (a i) c) (label_xor (b i) c) []) is_c (and_share-is offset (g + i) (label_xor (a i) c) (label_xor (b i) c) is_offset (xor-is (a i) c (is_a i) is_c))
 
-carries_open : (w : Width.Width) (offset : List ℕ) (g i : ℕ) (a0 a1 b0 b1 : ℕ → List ℕ) (x y : ℕ) → IsOffset offset → ((k : ℕ) → IsLabel (a0 k)) → ((k : ℕ) → IsLabel (b0 k)) → WordStands w offset a0 a1 x → WordStands w offset b0 b1 y → i < bits w →
-    LabelsStandFor offset (carry_at P0 offset g a0 b0 [] i) (carry_at P1 zero_label g a1 b1 (carries_message w offset g a0 b0) i) (carry x y i)
+carries_open : (w : Width.Width) (offset : Offset) (g i : ℕ) (a0 a1 b0 b1 : ℕ → Label) (x y : ℕ) → IsOffset offset → ((k : ℕ) → IsLabel (a0 k)) → ((k : ℕ) → IsLabel (b0 k)) → WordStands w offset a0 a1 x → WordStands w offset b0 b1 y → i < bits w →
+    LabelsStandFor offset (carry_at P0 offset g a0 b0 [] i) (carry_at P1 no_offset g a1 b1 (carries_message w offset g a0 b0) i) (carry x y i)
 unfolding carry_at carry
 carries_open w offset g zero a0 a1 b0 b1 x y is_offset is_a is_b ea eb within = refl
 carries_open w offset g (suc i) a0 a1 b0 b1 x y is_offset is_a is_b ea eb within =
-    let c0 : List ℕ = carry_at P0 offset g a0 b0 [] i in
-    let c1 : List ℕ = carry_at P1 zero_label g a1 b1 (carries_message w offset g a0 b0) i in
+    let c0 : Label = carry_at P0 offset g a0 b0 [] i in
+    let c1 : Label = carry_at P1 no_offset g a1 b1 (carries_message w offset g a0 b0) i in
     let before : i < bits w = omega arith in
     let found = joined-at 32 (bits w - 1) i (λ k. carry_rows offset (g + k) (a0 k) (b0 k) (carry_at P0 offset g a0 b0 [] k)) (omega arith) (λ k. length-carry offset (g + k) (a0 k) (b0 k) (carry_at P0 offset g a0 b0 [] k)) in
-    ap (λ (bs : List ℕ). carry_label P1 zero_label (g + i) (a1 i) (b1 i) c1 bs) found.1
-    ∙ carry_opens offset (g + i) (a0 i) (a1 i) (b0 i) (b1 i) c0 c1 found.0 (bit_of x i) (bit_of y i) (carry x y i) is_offset (is_a i) (carry_at-is offset g i a0 b0 is_offset.0 is_a is_b) (ea i before) (eb i before)
+    ap (λ (bs : List ℕ). carry_label P1 no_offset (g + i) (a1 i) (b1 i) c1 bs) found.1
+    ∙ carry_opens offset (g + i) (a0 i) (a1 i) (b0 i) (b1 i) c0 c1 found.0 (bit_of x i) (bit_of y i) (carry x y i) is_offset (is_a i) (carry_at-first offset g i a0 b0 [] is_offset is_a is_b) (ea i before) (eb i before)
     (carries_open w offset g i a0 a1 b0 b1 x y is_offset is_a is_b ea eb before)
 
 pub sum_opens_Y : SumOpens
 sum_opens_Y w offset g a0 a1 b0 b1 x y is_offset is_a is_b ea eb i within =
-    let c0 : List ℕ = carry_at P0 offset g a0 b0 [] i in
-    let c1 : List ℕ = carry_at P1 zero_label g a1 b1 (carries_message w offset g a0 b0) i in
+    let c0 : Label = carry_at P0 offset g a0 b0 [] i in
+    let c1 : Label = carry_at P1 no_offset g a1 b1 (carries_message w offset g a0 b0) i in
     subst (λ (b : Bool). LabelsStandFor offset (label_xor (label_xor (a0 i) (b0 i)) c0) (label_xor (label_xor (a1 i) (b1 i)) c1) b) (sym (bit_of-sum x y i))
     (xor_opens_Y offset (label_xor (a0 i) (b0 i)) (label_xor (a1 i) (b1 i)) c0 c1 (xor (bit_of x i) (bit_of y i)) (carry x y i)
     (xor_opens_Y offset (a0 i) (a1 i) (b0 i) (b1 i) (bit_of x i) (bit_of y i) (ea i within) (eb i within))
     (carries_open w offset g i a0 a1 b0 b1 x y is_offset is_a is_b ea eb within))
 
-pub length-carries : (w : Width.Width) (offset : List ℕ) (g : ℕ) (a b : ℕ → List ℕ) → length (carries_message w offset g a b) ≡ 32 * (bits w - 1)
+pub length-carries : (w : Width.Width) (offset : Offset) (g : ℕ) (a b : ℕ → Label) → length (carries_message w offset g a b) ≡ 32 * (bits w - 1)
 length-carries w offset g a b = length-joined 32 (bits w - 1) _ (λ k. length-carry offset (g + k) (a k) (b k) (carry_at P0 offset g a b [] k))
 
 -- ---- B to Y, A to Y, A to B
 
 -- the wires of another word with the same bits
-same_word : (w : Width.Width) (offset : List ℕ) (k0 k1 : ℕ → List ℕ) (x y : ℕ) → x % modulus w ≡ y % modulus w → WordStands w offset k0 k1 x → WordStands w offset k0 k1 y
+pub same_word : (w : Width.Width) (offset : Offset) (k0 k1 : ℕ → Label) (x y : ℕ) → x % modulus w ≡ y % modulus w → WordStands w offset k0 k1 x → WordStands w offset k0 k1 y
 same_word w offset k0 k1 x y same stands i within = subst (λ (b : Bool). LabelsStandFor offset (k0 i) (k1 i) b) (same_bits (bits w) x y i within same) (stands i within)
 
-xor_word_bits : (w : Width.Width) (x0 x1 x i : ℕ) → i < bits w → xor_of (modulus w) x0 x1 ≡ x % modulus w → xor (bit_of x0 i) (bit_of x1 i) ≡ bit_of x i
+pub xor_word_bits : (w : Width.Width) (x0 x1 x i : ℕ) → i < bits w → xor_of (modulus w) x0 x1 ≡ x % modulus w → xor (bit_of x0 i) (bit_of x1 i) ≡ bit_of x i
 xor_word_bits w x0 x1 x i within ex = sym (bit_of-xor x0 x1 i) ∙ same_bits (bits w) (bit_xor x0 x1) x i within ex
 
 pub b2y : B2Y
@@ -243,7 +246,7 @@ a2y w offset g x0 x1 x c half0 half1 is_offset words agree ex =
     let d : ℕ = choice_read w (choice_message w x1 c) in
     let inbox : List ℕ = answer_message true w offset x0 d half0 in
     let carries : List ℕ = carries_message w offset g (own_label P0 true half0 []) (answer_label P0 true w 0 half0 []) in
-    same_word w offset (added P0 w offset g 0 half0 [] []) (added P1 w zero_label g x1 half1 inbox carries) (x0 + x1) x ex
+    same_word w offset (added P0 w offset g 0 half0 [] []) (added P1 w no_offset g x1 half1 inbox carries) (x0 + x1) x ex
     (sum_opens_Y w offset g (own_label P0 true half0 []) (own_label P1 true half1 inbox) (answer_label P0 true w 0 half0 []) (answer_label P1 true w x1 half1 inbox) x0 x1 is_offset
     (λ k. dealt-is half0 (8 * k) words) (λ k. dealt-is half0 (pair_place true k) words)
     (own_opens w offset x0 d half0 half1 is_offset words)
@@ -254,7 +257,7 @@ a2b w offset g x0 x1 x c half0 half1 is_offset words agree ex =
     let d : ℕ = choice_read w (choice_message w x1 c) in
     let inbox : List ℕ = answer_message true w offset x0 d half0 in
     let carries : List ℕ = carries_message w offset g (own_label P0 true half0 []) (answer_label P0 true w 0 half0 []) in
-    (low_bits_stand w offset (added P0 w offset g 0 half0 [] []) (added P1 w zero_label g x1 half1 inbox carries) x is_offset (a2y w offset g x0 x1 x c half0 half1 is_offset words agree ex)).0
+    (low_bits_stand w offset (added P0 w offset g 0 half0 [] []) (added P1 w no_offset g x1 half1 inbox carries) x is_offset (a2y w offset g x0 x1 x c half0 half1 is_offset words agree ex)).0
 
 -- ---- one transfer of a word
 
@@ -375,7 +378,7 @@ y2a w offset k0 k1 x c half0 half1 is_offset agree stands = b2a w (low_word w k0
 -- ---- what is dealt agrees
 
 -- zeros after a list are what is read past its end
-padded : (n : ℕ) (words : List ℕ) (k : ℕ) → slice_index (words ++ replicate n 0) k ≡ slice_index words k
+pub padded : (n : ℕ) (words : List ℕ) (k : ℕ) → slice_index (words ++ replicate n 0) k ≡ slice_index words k
 padded zero [] k = refl
 padded (suc n) [] zero = refl
 padded (suc n) [] (suc k) = padded n [] k
@@ -386,7 +389,7 @@ half-is : (words : List ℕ) (k : ℕ) → slice_index (half_of words) k ≡ sli
 half-is words k = padded (512 - length words) words k
 
 half-label : (words : List ℕ) (k : ℕ) → dealt_label (half_of words) k ≡ dealt_label words k
-half-label words k = pair_is _ _ _ _ (half-is words k) (half-is words (k + 1))
+half-label words k = label_is _ _ _ _ (half-is words k) (half-is words (k + 1))
 
 -- reading after so many places
 index-drop : (n k : ℕ) (words : List ℕ) → slice_index words (n + k) ≡ slice_index (drop n words) k
@@ -395,31 +398,23 @@ index-drop (suc n) k [] = refl
 index-drop (suc n) k (x ∷ xs) = let next : suc n + k ≡ suc (n + k) = omega arith in ap (slice_index (x ∷ xs)) next ∙ index-drop n k xs
 
 label-drop : (n : ℕ) (words : List ℕ) → dealt_label words n ≡ dealt_label (drop n words) 0
-label-drop n words = let same : n ≡ n + 0 = omega arith in pair_is _ _ _ _ (ap (slice_index words) same ∙ index-drop n 0 words) (index-drop n 1 words)
+label-drop n words = let same : n ≡ n + 0 = omega arith in label_is _ _ _ _ (ap (slice_index words) same ∙ index-drop n 0 words) (index-drop n 1 words)
 
-label_at_head : (a rest : List ℕ) → length a ≡ 2 → dealt_label (a ++ rest) 0 ≡ a
-label_at_head [] rest two = absurd (omega arith)
-label_at_head (x ∷ []) rest two = absurd (omega arith)
-label_at_head (x ∷ y ∷ []) rest two = refl
-label_at_head (x ∷ y ∷ z ∷ more) rest two = absurd (omega arith)
-
-pub length-mask : (b : Bool) (words : List ℕ) (j k : ℕ) → length (pick b (dealt_label words j) (dealt_label words k)) ≡ 2
-length-mask true words j k = refl
-length-mask false words j k = refl
+label_at_head : (a : Label) (rest : List ℕ) → dealt_label (label_words a ++ rest) 0 ≡ a
+label_at_head a rest = refl
 
 masks_agree : (shares : Bool) (w : Width.Width) (chosen : ℕ) (words : List ℕ) → MasksAgree shares w chosen (half_of words) (half_of (dealt_masks shares w chosen words))
 masks_agree shares w chosen words i within =
-    let mask : ℕ → List ℕ = λ k. pick (bit_of chosen k) (dealt_label words (pair_place shares k + 2)) (dealt_label words (pair_place shares k + 4)) in
-    let each : (k : ℕ) → length (mask k) ≡ 2 = λ k. length-mask (bit_of chosen k) words (pair_place shares k + 2) (pair_place shares k + 4) in
-    let found = joined-at 2 (bits w) i mask within each in
+    let mask : ℕ → Label = λ k. pick (bit_of chosen k) (dealt_label words (pair_place shares k + 2)) (dealt_label words (pair_place shares k + 4)) in
+    let found = joined-at 2 (bits w) i (λ k. label_words (mask k)) within (λ k. refl) in
     half-label (dealt_masks shares w chosen words) (2 * i)
     ∙ label-drop (2 * i) (dealt_masks shares w chosen words)
     ∙ ap (λ (bs : List ℕ). dealt_label bs 0) found.1
-    ∙ label_at_head (mask i) found.0 (each i)
-    ∙ ap (λ (u : List ℕ). pick (bit_of chosen i) u (dealt_label words (pair_place shares i + 4))) (sym (half-label words (pair_place shares i + 2)))
-    ∙ ap (λ (u : List ℕ). pick (bit_of chosen i) (dealt_label (half_of words) (pair_place shares i + 2)) u) (sym (half-label words (pair_place shares i + 4)))
+    ∙ label_at_head (mask i) found.0
+    ∙ ap (λ (u : Label). pick (bit_of chosen i) u (dealt_label words (pair_place shares i + 4))) (sym (half-label words (pair_place shares i + 2)))
+    ∙ ap (λ (u : Label). pick (bit_of chosen i) (dealt_label (half_of words) (pair_place shares i + 2)) u) (sym (half-label words (pair_place shares i + 4)))
 
-index-map : (m : ℕ) (words : List ℕ) (k : ℕ) → slice_index (map (λ (u : ℕ). u % m) words) k ≡ slice_index words k % m
+pub index-map : (m : ℕ) (words : List ℕ) (k : ℕ) → slice_index (map (λ (u : ℕ). u % m) words) k ≡ slice_index words k % m
 index-map m [] k = sym (zero-mod m)
 index-map m (x ∷ xs) zero = refl
 index-map m (x ∷ xs) (suc k) = index-map m xs k
@@ -444,8 +439,8 @@ masks_agree_A w chosen words i within =
     ap (λ (u : ℕ). u % modulus w) (half-is (dealt_masks_A w chosen words) i ∙ got ∙ sym wanted)
 
 pub answers_agree : AnswersAreDealt
-answers_agree AnswerIn w chosen words = masks_agree false w chosen words
-answers_agree AnswerSharesA w chosen words = masks_agree true w chosen words
-answers_agree AnswerSharesB w chosen words = masks_agree true w chosen words
-answers_agree AnswerToA w chosen words = masks_agree_A w chosen words
-answers_agree _ w chosen words = tt
+answers_agree AnswerIn w chosen words are = masks_agree false w chosen words
+answers_agree AnswerSharesA w chosen words are = masks_agree true w chosen words
+answers_agree AnswerSharesB w chosen words are = masks_agree true w chosen words
+answers_agree AnswerToA w chosen words are = masks_agree_A w chosen words
+answers_agree _ w chosen words are = tt

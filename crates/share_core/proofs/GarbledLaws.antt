@@ -1,5 +1,5 @@
 -- The laws of labels and of garbled gates.
-use Rattle.std.proofs.Common.{◌≡◌, ℕ, zero, suc, ◌+◌, ◌*◌, ◌/◌, ◌%◌, ◌^◌, ◌<◌, ◌≤◌, Bool, true, false, not, ◌&&◌, if◌then◌else◌, bit_xor, List, [], ◌∷◌, ◌++◌, length, take, drop, slice_index, inl, inr, refl, sym, ap, subst, ◌∙◌, append_assoc, length-append, add-one, arith}
+use Rattle.std.proofs.Common.{◌≡◌, ℕ, zero, suc, ◌+◌, ◌*◌, ◌/◌, ◌%◌, ◌^◌, ◌<◌, ◌≤◌, Bool, true, false, IsTrue, not, ◌&&◌, if◌then◌else◌, bit_xor, List, [], ◌∷◌, ◌++◌, length, take, drop, slice_index, inl, inr, refl, sym, ap, subst, ◌∙◌, append_assoc, length-append, add-one, arith}
 use Rattle.std.specs.Int.{byte_at, bytes_high_first, to_be_bytes, w32}
 use Rattle.std.proofs.Math.Nat.{mod-lt, mod-mod, add_comm, le_of_lt, mul-le-mul_left, pow-le-pow_right}
 use Rattle.std.proofs.lemmas.List.{append-nil, length-take-le, drop-append-le}
@@ -12,12 +12,14 @@ use Rattle.std.specs.Int.Bits.{xor_assoc, xor_self, xor_zero_l, xor_zero_r}
 use Rattle.sha2.specs.Sha256.{sha256, digest_bytes, final_hash, initial_hash_256}
 use Rattle.hy_bits.specs.Bits.{bit, xor}
 use Rattle.hy_bits.specs.declared.turns.Role.TheVariants.{P0, P1}
-use Rattle.share_core.specs.Bytes.{bytes, number, byte_count}
+use Rattle.share_core.specs.declared.labels.Label.{Label}
+use Rattle.share_core.specs.declared.labels.Offset.{Offset}
+use Rattle.share_core.specs.Bytes.{AreWords, bytes, number, byte_count}
 use Rattle.share_core.specs.Boolean.{odd, bit_of, xor_of, is_slot}
-use Rattle.share_core.specs.Garbled.{IsLabel, IsOffset, LabelsStandFor, WordStands, AreWords, AndOpensY, XorOpensY, InputOpensY, LowBitsStand, CodesOpenY, OffsetIsDealt, zero_label, label_xor, label_for, word_if, label_if, low_bit, label_bytes, label_of, hash, row_g, row_e, and_rows, and_label, and_share_Y, joined, word_of_bits, dealt_label, input_message_Y, low_word}
+use Rattle.share_core.specs.Garbled.{IsLabel, IsOffset, LabelsStandFor, WordStands, AndOpensY, XorOpensY, InputOpensY, LowBitsStand, CodesOpenY, OffsetIsDealt, label_xor, label_for, no_offset, word_if, label_if, low_bit, label_bytes, label_of, hash, row_g, row_e, and_rows, and_label, and_share_Y, joined, word_of_bits, dealt_label, input_message_Y, low_word}
 use Rattle.share_core.proofs.ByteLaws.{AreBytes, append_bytes, drop_bytes, drop_front, length-bytes, number-bytes, number-word_bytes, number_take-lt, take_front}
-use Rattle.share_core.proofs.BooleanLaws.{odd-xor, bit_odd, xor-bits}
-use Rattle.hy_bits.proofs.BitLaws.{bit-lt, pow_two-suc}
+use Rattle.share_core.proofs.BooleanLaws.{odd-xor}
+use Rattle.hy_bits.proofs.BitLaws.{bit-lt, bit-odd, pow_two-suc, xor-bits}
 
 -- ---- xors of words
 
@@ -43,11 +45,11 @@ xor_both a b c d e f = ap (λ (u : ℕ). bit_xor u b) e ∙ ap (λ (u : ℕ). bi
 -- ---- the half gates, word by word: p and q are the hashes of a wire's two labels, d is the offset
 
 -- the first: where the wire's bit is 1 the result changes by the offset for the bit e of the other wire
-generator_half : (own : Bool) (p q e : ℕ) →
+garbler_half : (own : Bool) (p q e : ℕ) →
     bit_xor q (word_if (not own) (bit_xor (bit_xor p q) e)) ≡ bit_xor (bit_xor p (word_if own (bit_xor (bit_xor p q) e))) e
-generator_half true p q e =
+garbler_half true p q e =
     xor_zero_r q ∙ sym (ap (λ (u : ℕ). bit_xor u e) (sym (xor_assoc p (bit_xor p q) e)) ∙ xor_cancel_right (bit_xor p (bit_xor p q)) e ∙ xor_cancel p q)
-generator_half false p q e =
+garbler_half false p q e =
     sym (xor_assoc q (bit_xor p q) e) ∙ ap (λ (u : ℕ). bit_xor u e) (xor_cancel_between q p ∙ sym (xor_zero_r p))
 
 -- the second: a' is the left label xor v
@@ -95,8 +97,8 @@ changes false false false d = refl
 first_half : (x pa pb : Bool) (p q d : ℕ) →
     let tg = bit_xor (bit_xor p q) (word_if pb d) in
     bit_xor (hashed x p q) (word_if (xor pa x) tg) ≡ bit_xor (bit_xor p (word_if pa tg)) (first_change x pb d)
-first_half true true pb p q d = generator_half true p q (word_if pb d)
-first_half true false pb p q d = generator_half false p q (word_if pb d)
+first_half true true pb p q d = garbler_half true p q (word_if pb d)
+first_half true false pb p q d = garbler_half false p q (word_if pb d)
 first_half false true pb p q d = sym (xor_zero_r (bit_xor p (bit_xor (bit_xor p q) (word_if pb d))))
 first_half false false pb p q d = sym (xor_zero_r (bit_xor p 0))
 
@@ -138,88 +140,83 @@ sha256_bytes : (m : List ℕ) → AreBytes (sha256 m)
 unfolding sha256
 sha256_bytes m = digest_are (final_hash initial_hash_256 m) 8
 
-pub label_of-is : (bs : List ℕ) → AreBytes bs → IsLabel (label_of bs)
-label_of-is bs are = (refl, number_take-lt 8 bs are, number_take-lt 8 (drop 8 bs) (drop_bytes 8 bs are))
+-- the label of two words
+abbrev pub label_made : ℕ → ℕ → Label
+label_made low high = record { low = low; high = high }
 
-pub hash-is : (key : List ℕ) (j : ℕ) → IsLabel (hash key j)
+pub label_of-is : (bs : List ℕ) → AreBytes bs → IsLabel (label_of bs)
+label_of-is bs are = (number_take-lt 8 bs are, number_take-lt 8 (drop 8 bs) (drop_bytes 8 bs are))
+
+pub hash-is : (key : Label) (j : ℕ) → IsLabel (hash key j)
 unfolding hash
 hash-is key j = label_of-is (sha256 (label_bytes key ++ bytes 8 j)) (sha256_bytes (label_bytes key ++ bytes 8 j))
 
+-- a label is its two words
+pub label_is : (a b c d : ℕ) → a ≡ c → b ≡ d → label_made a b ≡ label_made c d
+label_is a b c d e f = ap (λ (u : ℕ). label_made u b) e ∙ ap (λ (u : ℕ). label_made c u) f
+
 -- a hash sees the two words of a label alone
-hash_words : (a b : List ℕ) (j : ℕ) → slice_index a 0 ≡ slice_index b 0 → slice_index a 1 ≡ slice_index b 1 → hash a j ≡ hash b j
-unfolding hash
-hash_words a b j first second =
-    ap (λ (bs : List ℕ). label_of (sha256 (bs ++ bytes 8 j)))
-    (ap (λ (u : ℕ). bytes 8 u ++ bytes 8 (slice_index a 1)) first ∙ ap (λ (u : ℕ). bytes 8 (slice_index b 0) ++ bytes 8 u) second)
+hash_words : (a b : Label) (j : ℕ) → a.low ≡ b.low → a.high ≡ b.high → hash a j ≡ hash b j
+hash_words a b j first second = ap (λ (key : Label). hash key j) (label_is a.low a.high b.low b.high first second)
 
 -- ---- labels
 
-pub pair_is : (a b c d : ℕ) → a ≡ c → b ≡ d → (a ∷ b ∷ []) ≡ (c ∷ d ∷ [])
-pair_is a b c d e f = ap (λ (u : ℕ). u ∷ b ∷ []) e ∙ ap (λ (u : ℕ). c ∷ u ∷ []) f
+pub xor-is : (a b : Label) → IsLabel a → IsLabel b → IsLabel (label_xor a b)
+xor-is a b left right = (xor_lt 64 a.low b.low left.0 right.0, xor_lt 64 a.high b.high left.1 right.1)
 
-pub label_is : (a : List ℕ) → length a ≡ 2 → (slice_index a 0 ∷ slice_index a 1 ∷ []) ≡ a
-label_is [] two = absurd (omega arith)
-label_is (x ∷ []) two = absurd (omega arith)
-label_is (x ∷ y ∷ []) two = refl
-label_is (x ∷ y ∷ z ∷ rest) two = absurd (omega arith)
+pub if-is : (b : Bool) (a : Label) → IsLabel a → IsLabel (label_if b a)
+if-is true a is = is
+if-is false a is = (omega arith, omega arith)
 
-pub xor-is : (a b : List ℕ) → IsLabel a → IsLabel b → IsLabel (label_xor a b)
-xor-is a b left right = (refl, xor_lt 64 (slice_index a 0) (slice_index b 0) left.1 right.1, xor_lt 64 (slice_index a 1) (slice_index b 1) left.2 right.2)
-
-pub if-is : (b : Bool) (a : List ℕ) → IsLabel a → IsLabel (label_if b a)
-if-is true a is = (refl, is.1, is.2)
-if-is false a is = (refl, omega arith, omega arith)
-
-pub for-is : (offset a : List ℕ) (b : Bool) → IsLabel offset → IsLabel a → IsLabel (label_for offset a b)
-for-is offset a b is_offset is = xor-is a (label_if b offset) is (if-is b offset is_offset)
+pub for-is : (offset : Offset) (a : Label) (b : Bool) → IsOffset offset → IsLabel a → IsLabel (label_for offset a b)
+for-is offset a b is_offset is = let shift : Label = label_made offset.low offset.high in xor-is a (label_if b shift) is (if-is b shift (is_offset.0, is_offset.1))
 
 -- the lowest bits of a pair of labels xor to the bit
-odd_if : (b : Bool) (offset : List ℕ) → low_bit offset ≡ true → odd (word_if b (slice_index offset 0)) ≡ b
+odd_if : (b : Bool) (offset : Offset) → odd offset.low ≡ true → odd (word_if b offset.low) ≡ b
 odd_if true offset set = set
 odd_if false offset set = refl
 
-pub low_bit-for : (offset a : List ℕ) (b : Bool) → low_bit offset ≡ true → low_bit (label_for offset a b) ≡ xor (low_bit a) b
-low_bit-for offset a b set = odd-xor (slice_index a 0) (word_if b (slice_index offset 0)) ∙ ap (λ (u : Bool). xor (low_bit a) u) (odd_if b offset set)
+pub low_bit-for : (offset : Offset) (a : Label) (b : Bool) → odd offset.low ≡ true → low_bit (label_for offset a b) ≡ xor (low_bit a) b
+low_bit-for offset a b set = odd-xor a.low (word_if b offset.low) ∙ ap (λ (u : Bool). xor (low_bit a) u) (odd_if b offset set)
 
 -- ---- labels as bytes
 
-pub length-label : (a : List ℕ) → length (label_bytes a) ≡ 16
-length-label a = length-append (bytes 8 (slice_index a 0)) (bytes 8 (slice_index a 1)) ∙ omega (arith, length-bytes 8 (slice_index a 0), length-bytes 8 (slice_index a 1))
+pub length-label : (a : Label) → length (label_bytes a) ≡ 16
+length-label a = length-append (bytes 8 a.low) (bytes 8 a.high) ∙ omega (arith, length-bytes 8 a.low, length-bytes 8 a.high)
 
-pub label_read : (a rest : List ℕ) → IsLabel a → label_of (label_bytes a ++ rest) ≡ a
+pub label_read : (a : Label) (rest : List ℕ) → IsLabel a → label_of (label_bytes a ++ rest) ≡ a
 label_read a rest is =
-    let first : List ℕ = bytes 8 (slice_index a 0) in
-    let second : List ℕ = bytes 8 (slice_index a 1) in
+    let first : List ℕ = bytes 8 a.low in
+    let second : List ℕ = bytes 8 a.high in
     let apart : label_bytes a ++ rest ≡ first ++ (second ++ rest) = append_assoc first second rest in
-    let low : number (take 8 (label_bytes a ++ rest)) ≡ slice_index a 0 =
-    ap (λ (bs : List ℕ). number (take 8 bs)) apart ∙ ap number (take_front 8 first (second ++ rest) (length-bytes 8 (slice_index a 0))) ∙ number-bytes 8 (slice_index a 0) is.1 in
-    let high : number (take 8 (drop 8 (label_bytes a ++ rest))) ≡ slice_index a 1 =
-    ap (λ (bs : List ℕ). number (take 8 (drop 8 bs))) apart ∙ ap (λ (bs : List ℕ). number (take 8 bs)) (drop_front 8 first (second ++ rest) (length-bytes 8 (slice_index a 0))) ∙ ap number (take_front 8 second rest (length-bytes 8 (slice_index a 1))) ∙ number-bytes 8 (slice_index a 1) is.2 in
-    pair_is _ _ _ _ low high ∙ label_is a is.0
+    let low : number (take 8 (label_bytes a ++ rest)) ≡ a.low =
+    ap (λ (bs : List ℕ). number (take 8 bs)) apart ∙ ap number (take_front 8 first (second ++ rest) (length-bytes 8 a.low)) ∙ number-bytes 8 a.low is.0 in
+    let high : number (take 8 (drop 8 (label_bytes a ++ rest))) ≡ a.high =
+    ap (λ (bs : List ℕ). number (take 8 (drop 8 bs))) apart ∙ ap (λ (bs : List ℕ). number (take 8 bs)) (drop_front 8 first (second ++ rest) (length-bytes 8 a.low)) ∙ ap number (take_front 8 second rest (length-bytes 8 a.high)) ∙ number-bytes 8 a.high is.1 in
+    label_is _ _ _ _ low high
 
-pub label_read_all : (a : List ℕ) → IsLabel a → label_of (label_bytes a) ≡ a
+pub label_read_all : (a : Label) → IsLabel a → label_of (label_bytes a) ≡ a
 label_read_all a is = ap label_of (sym (append-nil (label_bytes a))) ∙ label_read a [] is
 
 -- ---- an And
 
-row_g-is : (offset : List ℕ) (g : ℕ) (a b : List ℕ) → IsLabel offset → IsLabel (row_g offset g a b)
+row_g-is : (offset : Offset) (g : ℕ) (a b : Label) → IsOffset offset → IsLabel (row_g offset g a b)
 row_g-is offset g a b is =
-    xor-is (label_xor (hash a (2 * g)) (hash (label_xor a offset) (2 * g))) (label_if (low_bit b) offset)
-    (xor-is (hash a (2 * g)) (hash (label_xor a offset) (2 * g)) (hash-is a (2 * g)) (hash-is (label_xor a offset) (2 * g)))
-    (if-is (low_bit b) offset is)
+    for-is offset (label_xor (hash a (2 * g)) (hash (label_for offset a true) (2 * g))) (low_bit b) is
+    (xor-is (hash a (2 * g)) (hash (label_for offset a true) (2 * g)) (hash-is a (2 * g)) (hash-is (label_for offset a true) (2 * g)))
 
-row_e-is : (offset : List ℕ) (g : ℕ) (a b : List ℕ) → IsLabel a → IsLabel (row_e offset g a b)
+row_e-is : (offset : Offset) (g : ℕ) (a b : Label) → IsLabel a → IsLabel (row_e offset g a b)
 row_e-is offset g a b is =
-    xor-is (label_xor (hash b (2 * g + 1)) (hash (label_xor b offset) (2 * g + 1))) a
-    (xor-is (hash b (2 * g + 1)) (hash (label_xor b offset) (2 * g + 1)) (hash-is b (2 * g + 1)) (hash-is (label_xor b offset) (2 * g + 1)))
+    xor-is (label_xor (hash b (2 * g + 1)) (hash (label_for offset b true) (2 * g + 1))) a
+    (xor-is (hash b (2 * g + 1)) (hash (label_for offset b true) (2 * g + 1)) (hash-is b (2 * g + 1)) (hash-is (label_for offset b true) (2 * g + 1)))
     is
 
-hash_for : (offset a : List ℕ) (b : Bool) (j : ℕ) →
-    (slice_index (hash (label_for offset a b) j) 0 ≡ hashed b (slice_index (hash a j) 0) (slice_index (hash (label_xor a offset) j) 0)) × (slice_index (hash (label_for offset a b) j) 1 ≡ hashed b (slice_index (hash a j) 1) (slice_index (hash (label_xor a offset) j) 1))
+hash_for : (offset : Offset) (a : Label) (b : Bool) (j : ℕ) →
+    ((hash (label_for offset a b) j).low ≡ hashed b ((hash a j).low) ((hash (label_for offset a true) j).low)) × ((hash (label_for offset a b) j).high ≡ hashed b ((hash a j).high) ((hash (label_for offset a true) j).high))
 hash_for offset a true j = (refl, refl)
 hash_for offset a false j =
-    let same : hash (label_for offset a false) j ≡ hash a j = hash_words (label_for offset a false) a j (xor_zero_r (slice_index a 0)) (xor_zero_r (slice_index a 1)) in
-    (ap (λ (k : List ℕ). slice_index k 0) same, ap (λ (k : List ℕ). slice_index k 1) same)
+    let same : hash (label_for offset a false) j ≡ hash a j = hash_words (label_for offset a false) a j (xor_zero_r a.low) (xor_zero_r a.high) in
+    (ap (λ (k : Label). k.low) same, ap (λ (k : Label). k.high) same)
 
 gate_word_of : (x y sa sb pa pb : Bool) (ha hb p q r s a d : ℕ) → ha ≡ hashed x p q → hb ≡ hashed y r s → sa ≡ xor pa x → sb ≡ xor pb y →
     let tg = bit_xor (bit_xor p q) (word_if pb d) in
@@ -228,7 +225,7 @@ gate_word_of : (x y sa sb pa pb : Bool) (ha hb p q r s a d : ℕ) → ha ≡ has
     ≡ bit_xor (bit_xor (bit_xor p (word_if pa tg)) (bit_xor r (word_if pb (bit_xor te a)))) (word_if (x && y) d)
 gate_word_of x y sa sb pa pb ha hb p q r s a d eha ehb esa esb = rw (eha, ehb, esa, esb) (gate_word x y pa pb p q r s a d)
 
-pub and_law_Y : (offset : List ℕ) (g : ℕ) (a0 b0 : List ℕ) (x y : Bool) → low_bit offset ≡ true →
+pub and_law_Y : (offset : Offset) (g : ℕ) (a0 b0 : Label) (x y : Bool) → odd offset.low ≡ true →
     let tg = row_g offset g a0 b0 in
     let te = row_e offset g a0 b0 in
     and_label g (label_for offset a0 x) (label_for offset b0 y) tg te ≡ label_for offset (and_label g a0 b0 tg te) (x && y)
@@ -237,41 +234,41 @@ and_law_Y offset g a0 b0 x y set =
     let right = hash_for offset b0 y (2 * g + 1) in
     let sa = low_bit-for offset a0 x set in
     let sb = low_bit-for offset b0 y set in
-    pair_is _ _ _ _
-    (gate_word_of x y _ _ (low_bit a0) (low_bit b0) _ _ _ _ _ _ (slice_index a0 0) (slice_index offset 0) left.0 right.0 sa sb)
-    (gate_word_of x y _ _ (low_bit a0) (low_bit b0) _ _ _ _ _ _ (slice_index a0 1) (slice_index offset 1) left.1 right.1 sa sb)
+    label_is _ _ _ _
+    (gate_word_of x y _ _ (low_bit a0) (low_bit b0) _ _ _ _ _ _ a0.low offset.low left.0 right.0 sa sb)
+    (gate_word_of x y _ _ (low_bit a0) (low_bit b0) _ _ _ _ _ _ a0.high offset.high left.1 right.1 sa sb)
 
 -- the rows at the head of what P1 has received
-pub and_opens-before : (offset : List ℕ) (g : ℕ) (a0 a1 b0 b1 rest : List ℕ) (x y : Bool) → IsOffset offset → IsLabel a0 → LabelsStandFor offset a0 a1 x → LabelsStandFor offset b0 b1 y →
-    LabelsStandFor offset (and_share_Y P0 offset g a0 b0 []) (and_share_Y P1 zero_label g a1 b1 (and_rows offset g a0 b0 ++ rest)) (x && y)
+pub and_opens-before : (offset : Offset) (g : ℕ) (a0 a1 b0 b1 : Label) (rest : List ℕ) (x y : Bool) → IsOffset offset → IsLabel a0 → LabelsStandFor offset a0 a1 x → LabelsStandFor offset b0 b1 y →
+    LabelsStandFor offset (and_share_Y P0 offset g a0 b0 []) (and_share_Y P1 no_offset g a1 b1 (and_rows offset g a0 b0 ++ rest)) (x && y)
 and_opens-before offset g a0 a1 b0 b1 rest x y is_offset is_a ea eb =
-    let tg : List ℕ = row_g offset g a0 b0 in
-    let te : List ℕ = row_e offset g a0 b0 in
+    let tg : Label = row_g offset g a0 b0 in
+    let te : Label = row_e offset g a0 b0 in
     let rows : List ℕ = and_rows offset g a0 b0 ++ rest in
     let apart : rows ≡ label_bytes tg ++ (label_bytes te ++ rest) = append_assoc (label_bytes tg) (label_bytes te) rest in
-    let read_g : label_of rows ≡ tg = ap label_of apart ∙ label_read tg (label_bytes te ++ rest) (row_g-is offset g a0 b0 is_offset.0) in
+    let read_g : label_of rows ≡ tg = ap label_of apart ∙ label_read tg (label_bytes te ++ rest) (row_g-is offset g a0 b0 is_offset) in
     let read_e : label_of (drop 16 rows) ≡ te =
     ap (λ (bs : List ℕ). label_of (drop 16 bs)) apart ∙ ap label_of (drop_front 16 (label_bytes tg) (label_bytes te ++ rest) (length-label tg)) ∙ label_read te rest (row_e-is offset g a0 b0 is_a) in
-    ap (λ (u : List ℕ). and_label g a1 b1 u (label_of (drop 16 rows))) read_g
-    ∙ ap (λ (u : List ℕ). and_label g a1 b1 tg u) read_e
-    ∙ ap (λ (u : List ℕ). and_label g u b1 tg te) ea
-    ∙ ap (λ (u : List ℕ). and_label g (label_for offset a0 x) u tg te) eb
-    ∙ and_law_Y offset g a0 b0 x y is_offset.1
+    ap (λ (u : Label). and_label g a1 b1 u (label_of (drop 16 rows))) read_g
+    ∙ ap (λ (u : Label). and_label g a1 b1 tg u) read_e
+    ∙ ap (λ (u : Label). and_label g u b1 tg te) ea
+    ∙ ap (λ (u : Label). and_label g (label_for offset a0 x) u tg te) eb
+    ∙ and_law_Y offset g a0 b0 x y is_offset.2
 
 pub and_opens_Y : AndOpensY
 and_opens_Y offset g a0 a1 b0 b1 x y is_offset is_a is_b ea eb =
-    subst (λ (rows : List ℕ). LabelsStandFor offset (and_share_Y P0 offset g a0 b0 []) (and_share_Y P1 zero_label g a1 b1 rows) (x && y)) (append-nil (and_rows offset g a0 b0)) (and_opens-before offset g a0 a1 b0 b1 [] x y is_offset is_a ea eb)
+    subst (λ (rows : List ℕ). LabelsStandFor offset (and_share_Y P0 offset g a0 b0 []) (and_share_Y P1 no_offset g a1 b1 rows) (x && y)) (append-nil (and_rows offset g a0 b0)) (and_opens-before offset g a0 a1 b0 b1 [] x y is_offset is_a ea eb)
 
 -- P0's new label is a label
-pub and_share-is : (offset : List ℕ) (g : ℕ) (a b : List ℕ) → IsLabel offset → IsLabel a → IsLabel (and_share_Y P0 offset g a b [])
+pub and_share-is : (offset : Offset) (g : ℕ) (a b : Label) → IsOffset offset → IsLabel a → IsLabel (and_share_Y P0 offset g a b [])
 and_share-is offset g a b is_offset is_a =
-    let tg : List ℕ = row_g offset g a b in
-    let te : List ℕ = row_e offset g a b in
+    let tg : Label = row_g offset g a b in
+    let te : Label = row_e offset g a b in
     xor-is (label_xor (hash a (2 * g)) (label_if (low_bit a) tg)) (label_xor (hash b (2 * g + 1)) (label_if (low_bit b) (label_xor te a)))
     (xor-is (hash a (2 * g)) (label_if (low_bit a) tg) (hash-is a (2 * g)) (if-is (low_bit a) tg (row_g-is offset g a b is_offset)))
     (xor-is (hash b (2 * g + 1)) (label_if (low_bit b) (label_xor te a)) (hash-is b (2 * g + 1)) (if-is (low_bit b) (label_xor te a) (xor-is te a (row_e-is offset g a b is_a) is_a)))
 
-pub length-and_rows : (offset : List ℕ) (g : ℕ) (a b : List ℕ) → length (and_rows offset g a b) ≡ 32
+pub length-and_rows : (offset : Offset) (g : ℕ) (a b : Label) → length (and_rows offset g a b) ≡ 32
 length-and_rows offset g a b =
     length-append (label_bytes (row_g offset g a b)) (label_bytes (row_e offset g a b)) ∙ omega (arith, length-label (row_g offset g a b), length-label (row_e offset g a b))
 
@@ -288,27 +285,35 @@ xor_word x y a b d = xor_pairs a (word_if x d) b (word_if y d) ∙ ap (λ (u : �
 
 pub xor_opens_Y : XorOpensY
 xor_opens_Y offset a0 a1 b0 b1 x y ea eb =
-    ap (λ (u : List ℕ). label_xor u b1) ea
-    ∙ ap (λ (u : List ℕ). label_xor (label_for offset a0 x) u) eb
-    ∙ pair_is _ _ _ _ (xor_word x y (slice_index a0 0) (slice_index b0 0) (slice_index offset 0)) (xor_word x y (slice_index a0 1) (slice_index b0 1) (slice_index offset 1))
+    ap (λ (u : Label). label_xor u b1) ea
+    ∙ ap (λ (u : Label). label_xor (label_for offset a0 x) u) eb
+    ∙ label_is _ _ _ _ (xor_word x y a0.low b0.low offset.low) (xor_word x y a0.high b0.high offset.high)
 
 complement_back : (p odd : Bool) → xor odd (xor p odd) ≡ p
 complement_back p odd = grind arith
 
-named_word : (slot b : Bool) (a d : ℕ) → bit_xor (word_if slot (bit_xor a (word_if b d))) 0 ≡ bit_xor (word_if slot a) (word_if (slot && b) d)
-named_word true b a d = xor_zero_r (bit_xor a (word_if b d))
-named_word false b a d = refl
+-- under any code the labels of a slot's bit stand for the slot's bit where the code names the slot
+slot_word : (slot b : Bool) (a d : ℕ) → word_if slot (bit_xor a (word_if b d)) ≡ bit_xor (word_if slot a) (word_if (slot && b) d)
+slot_word true b a d = refl
+slot_word false b a d = refl
 
 code_word : (slot b complemented : Bool) (a d : ℕ) → bit_xor (word_if slot (bit_xor a (word_if b d))) 0 ≡ bit_xor (bit_xor (word_if slot a) (word_if complemented d)) (word_if (xor (slot && b) complemented) d)
 code_word slot b complemented a d =
-    named_word slot b a d
+    xor_zero_r (word_if slot (bit_xor a (word_if b d)))
+    ∙ slot_word slot b a d
     ∙ ap (λ (u : ℕ). bit_xor (word_if slot a) u) (ap (λ (u : Bool). word_if u d) (sym (complement_back (slot && b) complemented)) ∙ sym (if_xor complemented (xor (slot && b) complemented) d))
     ∙ sym (xor_assoc (word_if slot a) (word_if complemented d) (word_if (xor (slot && b) complemented) d))
 
+-- where the code names its slot, and where it is a constant
+slot_opens : (offset : Offset) (code : ℕ) (slot : Bool) (a0 a1 : Label) (b : Bool) → (IsTrue slot → LabelsStandFor offset a0 a1 b) →
+    label_for no_offset (label_if slot a1) false ≡ label_for offset (label_for offset (label_if slot a0) (odd code)) (xor (slot && b) (odd code))
+slot_opens offset code true a0 a1 b stands =
+    ap (λ (u : Label). label_for no_offset (label_if true u) false) (stands refl)
+    ∙ label_is _ _ _ _ (code_word true b (odd code) a0.low offset.low) (code_word true b (odd code) a0.high offset.high)
+slot_opens offset code false a0 a1 b stands = label_is _ _ _ _ (code_word false b (odd code) a0.low offset.low) (code_word false b (odd code) a0.high offset.high)
+
 pub codes_open_Y : CodesOpenY
-codes_open_Y offset code a0 a1 b ea =
-    ap (λ (u : List ℕ). label_xor (label_if (is_slot code) u) (label_if false zero_label)) ea
-    ∙ pair_is _ _ _ _ (code_word (is_slot code) b (odd code) (slice_index a0 0) (slice_index offset 0)) (code_word (is_slot code) b (odd code) (slice_index a0 1) (slice_index offset 1))
+codes_open_Y offset code a0 a1 b stands = slot_opens offset code (is_slot code) a0 a1 b (λ named. stands (grind (arith, named)))
 
 -- ---- pieces of one length, one after another
 
@@ -360,7 +365,7 @@ unfolding word_of_bits
 word_of_bits-of zero x = omega arith
 word_of_bits-of (suc n) x =
     ap (λ (u : ℕ). u + bit (bit_of x n) * 2 ^ n) (word_of_bits-of n x)
-    ∙ ap (λ (u : ℕ). x % 2 ^ n + u * 2 ^ n) (bit_odd (x / 2 ^ n))
+    ∙ ap (λ (u : ℕ). x % 2 ^ n + u * 2 ^ n) (bit-odd (x / 2 ^ n))
     ∙ add_comm (x % 2 ^ n) (x / 2 ^ n % 2 * 2 ^ n)
     ∙ sym (mod-pow-add x 1 n)
     ∙ ap (λ (k : ℕ). x % 2 ^ k) (omega arith)
@@ -368,27 +373,27 @@ word_of_bits-of (suc n) x =
 -- ---- words at Y
 
 pub dealt-is : (half : List ℕ) (k : ℕ) → AreWords half → IsLabel (dealt_label half k)
-dealt-is half k words = (refl, words k, words (k + 1))
+dealt-is half k words = (words k, words (k + 1))
 
 pub input_opens_Y : InputOpensY
 input_opens_Y w offset x half0 half1 is_offset words i within =
-    let sent : ℕ → List ℕ = λ k. label_for offset (dealt_label half0 (2 * k)) (bit_of x k) in
+    let sent : ℕ → Label = λ k. label_for offset (dealt_label half0 (2 * k)) (bit_of x k) in
     let found = joined-at 16 (bits w) i (λ k. label_bytes (sent k)) within (λ k. length-label (sent k)) in
-    ap label_of found.1 ∙ label_read (sent i) found.0 (for-is offset (dealt_label half0 (2 * i)) (bit_of x i) is_offset.0 (dealt-is half0 (2 * i) words))
+    ap label_of found.1 ∙ label_read (sent i) found.0 (for-is offset (dealt_label half0 (2 * i)) (bit_of x i) is_offset (dealt-is half0 (2 * i) words))
 
-pub length-input_message : (w : Width.Width) (offset : List ℕ) (x : ℕ) (half : List ℕ) → length (input_message_Y w offset x half) ≡ 16 * bits w
+pub length-input_message : (w : Width.Width) (offset : Offset) (x : ℕ) (half : List ℕ) → length (input_message_Y w offset x half) ≡ 16 * bits w
 length-input_message w offset x half = length-joined 16 (bits w) _ (λ k. length-label (label_for offset (dealt_label half (2 * k)) (bit_of x k)))
 
 difference_of_bits : (p b : Bool) → xor p (xor p b) ≡ b
 difference_of_bits p b = grind arith
 
-low_words : (w : Width.Width) (offset : List ℕ) (k0 k1 : ℕ → List ℕ) (x : ℕ) → low_bit offset ≡ true → WordStands w offset k0 k1 x → bit_xor (low_word w k0) (low_word w k1) ≡ x % modulus w
+low_words : (w : Width.Width) (offset : Offset) (k0 k1 : ℕ → Label) (x : ℕ) → odd offset.low ≡ true → WordStands w offset k0 k1 x → bit_xor (low_word w k0) (low_word w k1) ≡ x % modulus w
 low_words w offset k0 k1 x set stands =
     word_of_bits-xor (bits w) (λ i. low_bit (k0 i)) (λ i. low_bit (k1 i))
     ∙ word_of_bits-same (bits w) (λ i. xor (low_bit (k0 i)) (low_bit (k1 i))) (λ i. bit_of x i) (λ i less. ap (λ (u : Bool). xor (low_bit (k0 i)) u) (ap low_bit (stands i less) ∙ low_bit-for offset (k0 i) (bit_of x i) set) ∙ difference_of_bits (low_bit (k0 i)) (bit_of x i))
     ∙ word_of_bits-of (bits w) x
 
-pub low_word-is : (w : Width.Width) (k : ℕ → List ℕ) → low_word w k < modulus w
+pub low_word-is : (w : Width.Width) (k : ℕ → Label) → low_word w k < modulus w
 low_word-is w k = word_of_bits-lt (bits w) (λ i. low_bit (k i))
 
 opened_by : (w : Width.Width) (own theirs x : ℕ) → theirs < modulus w → bit_xor own theirs ≡ x % modulus w → xor_of (modulus w) own (number (bytes (byte_count w) theirs)) ≡ x % modulus w
@@ -396,7 +401,7 @@ opened_by w own theirs x small both = ap (λ (u : ℕ). xor_of (modulus w) own u
 
 pub low_bits_stand : LowBitsStand
 low_bits_stand w offset k0 k1 x is_offset stands =
-    let both : bit_xor (low_word w k0) (low_word w k1) ≡ x % modulus w = low_words w offset k0 k1 x is_offset.1 stands in
+    let both : bit_xor (low_word w k0) (low_word w k1) ≡ x % modulus w = low_words w offset k0 k1 x is_offset.2 stands in
     (ap (λ (u : ℕ). u % modulus w) both ∙ mod-mod x (modulus w), opened_by w (low_word w k0) (low_word w k1) x (low_word-is w k1) both, opened_by w (low_word w k1) (low_word w k0) x (low_word-is w k0) (xor_comm (low_word w k1) (low_word w k0) ∙ both))
 
 -- ---- the offset
@@ -407,7 +412,7 @@ offset-odd a = grind arith
 pub offset_is_dealt : OffsetIsDealt
 offset_is_dealt drawn words =
     let first : slice_index drawn 0 < 2 ^ 64 = words 0 in
-    ((refl, omega arith, words 1), offset-odd (slice_index drawn 0))
+    (omega arith, words 1, offset-odd (slice_index drawn 0))
 
 -- ---- what the code needs
 
@@ -421,14 +426,14 @@ bytes-mod (suc n) a =
     let high : a % 2 ^ (8 * suc n) / 256 ≡ a / 256 % 2 ^ (8 * n) = ap (λ (k : ℕ). a % 2 ^ k / 256) more ∙ field_of a (8 * n) 8 in
     ap (λ (u : ℕ). u ∷ bytes n (a % 2 ^ (8 * suc n) / 256)) low ∙ ap (λ (u : ℕ). (a % 256) ∷ bytes n u) high ∙ ap (λ (bs : List ℕ). (a % 256) ∷ bs) (bytes-mod n (a / 256))
 
-pub hash-mod : (key : List ℕ) (j : ℕ) → hash key (j % 2 ^ 64) ≡ hash key j
+pub hash-mod : (key : Label) (j : ℕ) → hash key (j % 2 ^ 64) ≡ hash key j
 unfolding hash
 hash-mod key j = ap (λ (bs : List ℕ). label_of (sha256 (label_bytes key ++ bs))) (bytes-mod 8 j)
 
 -- P0's new zero label needs one hash of each wire
-pub generator_choice : (own : Bool) (p q e : ℕ) → bit_xor p (word_if own (bit_xor (bit_xor p q) e)) ≡ (if own then bit_xor q e else p)
-generator_choice true p q e = ap (λ (u : ℕ). bit_xor p u) (xor_assoc p q e) ∙ xor_cancel p (bit_xor q e)
-generator_choice false p q e = xor_zero_r p
+pub garbler_choice : (own : Bool) (p q e : ℕ) → bit_xor p (word_if own (bit_xor (bit_xor p q) e)) ≡ (if own then bit_xor q e else p)
+garbler_choice true p q e = ap (λ (u : ℕ). bit_xor p u) (xor_assoc p q e) ∙ xor_cancel p (bit_xor q e)
+garbler_choice false p q e = xor_zero_r p
 
 pub evaluator_choice : (own : Bool) (r s a : ℕ) → bit_xor r (word_if own (bit_xor (bit_xor (bit_xor r s) a) a)) ≡ (if own then s else r)
 evaluator_choice true r s a = ap (λ (u : ℕ). bit_xor r u) (plain_row r s a) ∙ xor_cancel r s

@@ -85,5 +85,5 @@ triple_dealt m a b a0 b0 c0 some =
     halves_add m (product_of m a b) c0 some ∙ mod-mod (a * b) m ∙ mul-mod a b m ∙ sym factors ∙ sym (mul-mod (a0 % m + difference_of m a a0) (b0 % m + difference_of m b b0) m)
 
 pub dealt_halves_agree : DealtHalvesAgree
-dealt_halves_agree MulA w drawn = triple_dealt (modulus w) (slice_index drawn 0) (slice_index drawn 1) (slice_index drawn 2) (slice_index drawn 3) (slice_index drawn 4) (modulus_pos w)
-dealt_halves_agree _ w drawn = tt
+dealt_halves_agree MulA w drawn are = triple_dealt (modulus w) (slice_index drawn 0) (slice_index drawn 1) (slice_index drawn 2) (slice_index drawn 3) (slice_index drawn 4) (modulus_pos w)
+dealt_halves_agree _ w drawn are = tt

@@ -6,3 +6,8 @@ pub mod BooleanLaws
 pub mod GarbledLaws
 pub mod ConversionLaws
 pub mod SizeLaws
+pub mod LevelLaws
+pub mod SlotLaws
+pub mod SharingLaws
+pub mod MachineLaws
+pub mod ResultLaws

@@ -7,12 +7,11 @@ use Rattle.hy_bits.specs.declared.turns.Role.{Role}
 use Rattle.hy_bits.specs.declared.turns.Role.TheVariants.{P0, P1}
 use Rattle.hy_bits.specs.Bits.{bit, xor}
 use Rattle.hy_bits.specs.Words.{modulus}
-use Rattle.share_core.specs.declared.instr.Instr.{Instr}
 use Rattle.share_core.specs.declared.instr.InstrKind.{InstrKind}
 use Rattle.share_core.specs.declared.instr.InstrKind.TheVariants.{InBP0, InBP1, AndB, XorB, OpenB}
-use Rattle.share_core.specs.Roles.{is_first, is_second, other}
-use Rattle.share_core.specs.Bytes.{bytes, number, byte_count}
-use Rattle.share_core.specs.Instructions.{half_of, level_message, level_shares, slot_of}
+use Rattle.share_core.specs.Roles.{is_first, is_second}
+use Rattle.share_core.specs.Bytes.{AreWords, bytes, number, byte_count}
+use Rattle.share_core.specs.Instructions.{half_of, slot_of}
 
 -- the lowest bit of a number, and bit i
 abbrev pub odd : ℕ → Bool
@@ -117,15 +116,6 @@ share_B XorB w role x y half inbox = bit (xor (odd x) (odd y))
 share_B OpenB w role x y half inbox = xor_of (modulus w) x (number inbox)
 share_B _ w role x y half inbox = 0
 
--- a level of Ands, over the party's bits. `halves` gives the role's half of each gate
-abbrev pub level_message_B : Role → (ℕ → Bool) → (ℕ → List ℕ) → ℕ → List Instr → List ℕ
-level_message_B role slots halves k gates =
-    level_message (λ n gate. message_B gate.kind gate.width role (bit (bit_at role slots gate.left)) (bit (bit_at role slots gate.right)) (halves n)) k gates
-
-abbrev pub level_shares_B : Role → (ℕ → Bool) → (ℕ → List ℕ) → ℕ → List Instr → List ℕ → List ℕ
-level_shares_B role slots halves k gates inbox =
-    level_shares (λ gate. sent_B gate.kind gate.width (other role)) (λ n gate piece. share_B gate.kind gate.width role (bit (bit_at role slots gate.left)) (bit (bit_at role slots gate.right)) (halves n) piece) k gates inbox
-
 -- ---- what the new shares stand for
 
 -- an input's x is its owner's word; any other operand is shared
@@ -162,7 +152,7 @@ InstrOpensB =
 
 -- the halves that are dealt from any words agree
 abbrev pub DealtHalvesAgreeB : Type 0
-DealtHalvesAgreeB = (kind : InstrKind) (w : Width) (drawn : List ℕ) → HalvesAgree_B kind (half_of (dealt_B kind w P0 drawn)) (half_of (dealt_B kind w P1 drawn))
+DealtHalvesAgreeB = (kind : InstrKind) (w : Width) (drawn : List ℕ) → AreWords drawn → HalvesAgree_B kind (half_of (dealt_B kind w P0 drawn)) (half_of (dealt_B kind w P1 drawn))
 
 -- the shares of the bit that a code means stand for it
 abbrev pub CodesOpenB : Type 0

@@ -10,7 +10,8 @@ use Rattle.share_core.specs.declared.instr.InstrKind.{InstrKind}
 use Rattle.share_core.specs.declared.instr.InstrKind.TheVariants.{Offset, InAP0, InAP1, InBP0, InBP1, InYP0, ChooseIn, ChooseA, ChooseB, AnswerIn, AnswerSharesA, AnswerSharesB, AnswerToA, MulA, AndB}
 use Rattle.share_core.specs.Instructions.{half_of, dealt_A}
 use Rattle.share_core.specs.Boolean.{bit_of, dealt_B}
-use Rattle.share_core.specs.Garbled.{offset_of, dealt_label, joined}
+use Rattle.share_core.specs.Bytes.{AreWords}
+use Rattle.share_core.specs.Garbled.{offset_of, offset_words, dealt_label, joined, label_words}
 use Rattle.share_core.specs.Conversions.{MasksAgree, MasksAgreeA, pair_place, pick}
 
 -- how many words are drawn: two for each label, one for each word at A or B, and for an And one, of which five bits are taken
@@ -34,14 +35,14 @@ drawn _ w = 0
 
 -- P1's masks of an answer: for each bit the one of r0 and r1, or of t0 and t1, that its choice's word picks
 abbrev pub dealt_masks : Bool → Width → ℕ → List ℕ → List ℕ
-dealt_masks shares w chosen words = joined (bits w) (λ i. pick (bit_of chosen i) (dealt_label words (pair_place shares i + 2)) (dealt_label words (pair_place shares i + 4)))
+dealt_masks shares w chosen words = joined (bits w) (λ i. label_words (pick (bit_of chosen i) (dealt_label words (pair_place shares i + 2)) (dealt_label words (pair_place shares i + 4))))
 
 abbrev pub dealt_masks_A : Width → ℕ → List ℕ → List ℕ
 dealt_masks_A w chosen words = joined (bits w) (λ i. (pick (bit_of chosen i) (slice_index words (3 * i + 1)) (slice_index words (3 * i + 2)) % modulus w) ∷ [])
 
 -- the words of the role's half. P0 has the words of labels and of answers in the order drawn; those of an answer at A are words of the width
 abbrev pub dealt : InstrKind → Width → Role → ℕ → List ℕ → List ℕ
-dealt Offset w P0 chosen words = offset_of words
+dealt Offset w P0 chosen words = offset_words (offset_of words)
 dealt InYP0 w P0 chosen words = words
 dealt ChooseIn w P1 chosen words = (slice_index words 0 % modulus w) ∷ []
 dealt ChooseA w P1 chosen words = (slice_index words 0 % modulus w) ∷ []
@@ -79,4 +80,4 @@ AnswersAgree AnswerToA w chosen half0 half1 = MasksAgreeA w chosen half0 half1
 AnswersAgree _ w chosen half0 half1 = Unit {0}
 
 abbrev pub AnswersAreDealt : Type 0
-AnswersAreDealt = (kind : InstrKind) (w : Width) (chosen : ℕ) (words : List ℕ) → AnswersAgree kind w chosen (half_of (dealt kind w P0 chosen words)) (half_of (dealt kind w P1 chosen words))
+AnswersAreDealt = (kind : InstrKind) (w : Width) (chosen : ℕ) (words : List ℕ) → AreWords words → AnswersAgree kind w chosen (half_of (dealt kind w P0 chosen words)) (half_of (dealt kind w P1 chosen words))

@@ -5,16 +5,14 @@
 -- operations, of the gates of a level, and of openings. For the kinds of other sharings they say nothing: no bytes, share 0.
 -- Those of B stand in Boolean.antt, those of Y in Garbled.antt, those of conversions in Conversions.antt, and what is dealt
 -- for each kind in Dealing.antt.
-use Rattle.std.specs.Prelude.{◌≡◌, ℕ, suc, ◌-◌, ◌*◌, ◌/◌, ◌%◌, Bool, true, false, List, [], ◌∷◌, ◌++◌, length, take, drop, slice_index, replicate}
+use Rattle.std.specs.Prelude.{◌≡◌, ℕ, ◌-◌, ◌*◌, ◌/◌, ◌%◌, Bool, true, false, List, [], ◌∷◌, ◌++◌, length, slice_index, replicate}
 use Rattle.hy_bits.specs.declared.width.Width.{Width}
 use Rattle.hy_bits.specs.declared.turns.Role.{Role}
 use Rattle.hy_bits.specs.declared.turns.Role.TheVariants.{P0, P1}
 use Rattle.hy_bits.specs.Words.{modulus}
-use Rattle.share_core.specs.declared.instr.Instr.{Instr}
 use Rattle.share_core.specs.declared.instr.InstrKind.{InstrKind}
 use Rattle.share_core.specs.declared.instr.InstrKind.TheVariants.{InAP0, InAP1, InBP0, InBP1, InYP0, ChooseIn, ChooseA, ChooseB, AnswerIn, AnswerSharesA, AnswerSharesB, AnswerToA, LevelA, LevelB, LevelY, Carries, OpenA, OpenB, OpenY, MulA, AddA, AddLeft, AddRight, SubA, SubLeft, SubRight, MulLeft, MulRight, NegA, TruncA, Known}
-use Rattle.share_core.specs.Roles.{other}
-use Rattle.share_core.specs.Bytes.{bytes, number, byte_count}
+use Rattle.share_core.specs.Bytes.{AreWords, bytes, number, byte_count}
 use Rattle.share_core.specs.Frames.{frame_of}
 use Rattle.share_core.specs.Arithmetic.{StandFor, IsTriple, sum_of, difference_of, negation_of, product_of, product_message, opened_e, opened_f, product_share}
 
@@ -72,10 +70,6 @@ has_frame _ role = false
 -- a code over slots: slot s has the codes 2 * s + 2 and, complemented, 2 * s + 3
 abbrev pub slot_of : ℕ → ℕ
 slot_of code = code / 2 - 1
-
--- the party's share at A that the code names
-abbrev pub word_at : List ℕ → ℕ → ℕ
-word_at slots code = slice_index slots (slot_of code)
 
 -- ---- what is dealt at A
 
@@ -187,28 +181,7 @@ InstrOpens =
 
 -- the halves that are dealt from any words agree
 abbrev pub DealtHalvesAgree : Type 0
-DealtHalvesAgree = (kind : InstrKind) (w : Width) (drawn : List ℕ) → HalvesAgree_A kind w (half_of (dealt_A kind w P0 drawn)) (half_of (dealt_A kind w P1 drawn))
-
--- ---- levels: a party's gates of one depth, the k-th of which is given with its number k
-
--- the gates' messages one after another
-abbrev pub level_message : (ℕ → Instr → List ℕ) → ℕ → List Instr → List ℕ
-level_message message k [] = []
-level_message message k (gate ∷ gates) = message k gate ++ level_message message (suc k) gates
-
--- the gates' new shares, each from its piece of the other's message
-abbrev pub level_shares : {S : Type 0} → (Instr → ℕ) → (ℕ → Instr → List ℕ → S) → ℕ → List Instr → List ℕ → List S
-level_shares received share k [] inbox = []
-level_shares received share k (gate ∷ gates) inbox = share k gate (take (received gate) inbox) ∷ level_shares received share (suc k) gates (drop (received gate) inbox)
-
--- at A, over the party's slots. `halves` gives the role's half of each gate
-abbrev pub level_message_A : Role → List ℕ → (ℕ → List ℕ) → ℕ → List Instr → List ℕ
-level_message_A role slots halves k gates =
-    level_message (λ n gate. message_A gate.kind gate.width role (word_at slots gate.left) (word_at slots gate.right) (halves n)) k gates
-
-abbrev pub level_shares_A : Role → List ℕ → (ℕ → List ℕ) → ℕ → List Instr → List ℕ → List ℕ
-level_shares_A role slots halves k gates inbox =
-    level_shares (λ gate. sent_A gate.kind gate.width (other role)) (λ n gate piece. share_A gate.kind gate.width role gate.value (word_at slots gate.left) (word_at slots gate.right) (halves n) piece) k gates inbox
+DealtHalvesAgree = (kind : InstrKind) (w : Width) (drawn : List ℕ) → AreWords drawn → HalvesAgree_A kind w (half_of (dealt_A kind w P0 drawn)) (half_of (dealt_A kind w P1 drawn))
 
 -- the frame of a payload that an instruction's role sends
 abbrev pub frame_for : InstrKind → List ℕ → List ℕ

@@ -8,3 +8,7 @@ pub mod Garbled
 pub mod Conversions
 pub mod Dealing
 pub mod Sizes
+pub mod Levels
+pub mod Machine
+pub mod Clear
+pub mod SharingLaw

@@ -1,11 +1,10 @@
--- How many bytes each party sends for each kind of instruction, in the payload of its frame. A level's payload is those of its
--- gates, one after another.
-use Rattle.std.specs.Prelude.{◌≡◌, ℕ, ◌+◌, ◌-◌, ◌*◌, List, [], ◌∷◌, length}
+-- How many bytes each party sends for each kind of instruction, in the payload of its frame. A level's are those of its gates; see
+-- Levels.antt.
+use Rattle.std.specs.Prelude.{◌≡◌, ℕ, ◌-◌, ◌*◌, List, length}
 use Rattle.hy_bits.specs.declared.width.Width.{Width}
 use Rattle.hy_bits.specs.declared.turns.Role.{Role}
 use Rattle.hy_bits.specs.declared.turns.Role.TheVariants.{P0, P1}
 use Rattle.hy_bits.specs.Words.{bits}
-use Rattle.share_core.specs.declared.instr.Instr.{Instr}
 use Rattle.share_core.specs.declared.instr.InstrKind.{InstrKind}
 use Rattle.share_core.specs.declared.instr.InstrKind.TheVariants.{InAP0, InAP1, InBP0, InBP1, InYP0, ChooseIn, ChooseA, ChooseB, AnswerIn, AnswerSharesA, AnswerSharesB, AnswerToA, Carries, OpenA, OpenB, OpenY, MulA, AndB, AndY}
 use Rattle.share_core.specs.Bytes.{byte_count}
@@ -34,11 +33,6 @@ sent MulA w role = 2 * byte_count w
 sent AndB w role = 1
 sent AndY w P0 = 32
 sent _ w role = 0
-
--- of a level with these gates
-abbrev pub level_sent : Role → List Instr → ℕ
-level_sent role [] = 0
-level_sent role (gate ∷ gates) = sent gate.kind gate.width role + level_sent role gates
 
 -- the messages at A and at B have these lengths
 abbrev pub MessagesHaveLengths : Type 0

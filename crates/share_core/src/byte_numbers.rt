@@ -4,7 +4,7 @@ ghost use Rattle.share_core.specs.Bytes.{bytes, byte_count, number};
 
 use hy_bits::Width;
 
-/// How many bytes a word of the width takes in a message; a bit takes one.
+/// How many bytes a word of width `w` takes in a message; a bit takes one.
 pub fn byte_count(w: Width) -> usize
     ensures { result ≡ byte_count w }
 {
@@ -16,7 +16,7 @@ pub fn byte_count(w: Width) -> usize
     }
 }
 
-/// Writes the lowest bytes of a number, lowest byte first, as many as there is room for.
+/// Writes the lowest bytes of `value`, lowest byte first, as many as `out` has room for. The time grows with the length of `out`.
 pub fn write_number(value: u64, out: &mut [u8])
     ensures { out.new ≡ bytes (length out.old) value }
 {
@@ -27,7 +27,7 @@ pub fn write_number(value: u64, out: &mut [u8])
     }
 }
 
-/// The number whose bytes these are, lowest byte first.
+/// The number whose bytes `bytes` are, lowest byte first.
 pub fn read_number(bytes: &[u8]) -> u64
     requires { length bytes.now ≤ 8 }
     ensures value { result ≡ number bytes.now }

@@ -17,7 +17,8 @@ pub enum FrameFault {
 /// The number of bytes before a frame's payload.
 pub const HEAD: usize = 5;
 
-/// Writes the frame of a payload: the kind in one byte, the payload's length in four, lowest byte first, and the payload.
+/// Writes the frame of `payload` into `out`: the code `kind` in one byte, the payload's length in four, lowest byte first, and the
+/// payload.
 pub fn frame(kind: u8, payload: &[u8], out: &mut [u8])
     requires short { length payload.now < 2 ^ 32 }
     requires room { length out.old ≡ length payload.now + 5 }
@@ -30,8 +31,13 @@ pub fn frame(kind: u8, payload: &[u8], out: &mut [u8])
     body.copy_from_slice(payload);
 }
 
-/// Whether the bytes begin with a frame of this kind with the wanted number of bytes of payload. The head is examined
-/// first, its kind before its length, and only then whether the payload stands whole. Bytes after the frame aren't looked at.
+/// Tells whether `bytes` begins with a frame of the code `kind` with `wanted` bytes of payload. Bytes after the frame aren't
+/// looked at.
+///
+/// # Errors
+///
+/// The first of these: `Short` where the head isn't whole, `Kind` where it names another code, `Length` where it announces another
+/// length, and `Short` where the payload isn't whole.
 pub fn deframe(bytes: &[u8], kind: u8, wanted: u32) -> Result<(), FrameFault>
     ensures answer { IsAnswer bytes.now kind wanted result }
     ensures frame { (payload rest : List ℕ) →

@@ -7,18 +7,19 @@ use hy_bits::{Role, Width};
 /// which side an operation at A has a constant.
 #[derive(Clone, Copy, Debug, PartialEq, Eq)]
 pub enum InstrKind {
-    /// The dealer's offset for the labels of the run.
+    /// The free-XOR offset of the run is dealt to P0.
     Offset,
     InAP0,
     InAP1,
     InBP0,
     InBP1,
     InYP0,
-    /// P1's choice for an input of its own, for its share at A, or for its share at B.
+    /// P1's choice in oblivious transfers, for an input of its own, for its share at A, or for its share at B.
     ChooseIn,
     ChooseA,
     ChooseB,
-    /// P0's answer to a choice: labels for an input, labels for shares at A or at B, or words at A.
+    /// P0's answer to a choice: the messages of the oblivious transfers, labels for an input, labels for shares at A or at B, or
+    /// words at A.
     AnswerIn,
     AnswerSharesA,
     AnswerSharesB,
@@ -66,7 +67,7 @@ pub struct Instr {
     pub value: u64,
 }
 
-/// The dealt words of one role for one instruction or one gate: from place 0 on, then zeros.
+/// The words dealt to one role for one instruction or one gate of a level: from place 0 on, then zeros.
 #[derive(Clone, Copy)]
 pub struct Half {
     pub words: [u64; 512],
@@ -79,7 +80,7 @@ pub trait Halves {
     /// The role's half of the k-th gate.
     ghost meant: { Self → Role → ℕ → Half };
 
-    /// The role's half of the instruction's k-th gate; k is 0 for an instruction that is no level.
+    /// The half that `role` has of the instruction's gate `k`; `k` is 0 for an instruction that is no level.
     fn half(&self, role: Role, k: u32) -> Half
         ensures { result ≡ meant self.now role k };
 }

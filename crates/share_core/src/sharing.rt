@@ -3,12 +3,14 @@ ghost use Rattle.hy_bits.specs.declared.width.Width.{Width};
 ghost use Rattle.hy_bits.specs.declared.turns.Role.{Role};
 ghost use Rattle.hy_bits.specs.declared.turns.Role.TheVariants.{P0, P1};
 ghost use Rattle.share_core.specs.Roles.{other};
+ghost use Rattle.share_core.specs.declared.labels.Offset.{Offset};
 
 use hy_bits::Role;
 
-/// A way to hold a word as two shares, one with each party, and to compute on it. A bit is a word of width 1.
+/// A secret-sharing scheme for two parties: a way to hold a word as two shares, one with each party, and to compute on it. A bit is
+/// a word of width 1.
 ///
-/// What two shares stand for may rest on the run's offset, the two words that P0 alone has and that tell the two labels of
+/// What two shares stand for may rest on the run's free-XOR offset, which P0 alone has and which tells the two labels of
 /// a bit apart; sharings without labels don't look at it.
 ///
 /// Any shares and any dealt halves may be given to `send` and `finish`, and any bytes to `finish`: what is sent and what
@@ -32,13 +34,13 @@ pub trait Sharing {
     ghost result_width: { Self.Op → Width };
 
     /// Under the run's offset P0's share and P1's share stand for the word of the width.
-    ghost stand_for: { List ℕ → Width → Self.Share → Self.Share → ℕ → Type 0 };
+    ghost stand_for: { Offset → Width → Self.Share → Self.Share → ℕ → Type 0 };
 
     /// The operation's value of the arguments' values.
     ghost value: { Self.Op → ℕ → ℕ → ℕ };
 
     /// Under the run's offset what was dealt to P0 and to P1 fits together.
-    ghost agree: { List ℕ → Self.Op → Self.Dealt → Self.Dealt → Type 0 };
+    ghost agree: { Offset → Self.Op → Self.Dealt → Self.Dealt → Type 0 };
 
     /// The number of bytes that the role sends.
     ghost sent_length: { Self.Op → Role → ℕ };
@@ -49,11 +51,12 @@ pub trait Sharing {
     /// The share that the role ends with, from the same and the other's message.
     ghost new_share: { Self.Op → Role → Self.Share → Self.Share → Self.Dealt → List ℕ → Self.Share };
 
-    /// The number of bytes that the role sends.
+    /// The number of bytes that `role` sends for `op`.
     fn sent(op: Self::Op, role: Role) -> usize
         ensures { result ≡ sent_length op role };
 
-    /// Writes what the role sends. An operation on one word ignores the second share.
+    /// Writes what `role` sends for `op` into `out`, from its shares `x` and `y` and what was dealt to it. An operation on one word
+    /// ignores `y`.
     fn send(
         op: Self::Op,
         role: Role,
@@ -67,7 +70,7 @@ pub trait Sharing {
         ensures first { is_share x }
         ensures second { is_share y };
 
-    /// The role's share of the result, from what the other sent.
+    /// The share of the result of `op` that `role` ends with, from what the other sent, `inbox`.
     fn finish(
         op: Self::Op,
         role: Role,
@@ -87,7 +90,7 @@ pub trait Sharing {
 
     /// With dealt halves that agree, finishing with each other's messages gives shares that stand for the operation's
     /// value of the words that the arguments' shares stand for.
-    ghost law: { (op : Self.Op) (offset : List ℕ) (x0 x1 y0 y1 : Self.Share) (x y : ℕ) (d0 d1 : Self.Dealt) →
+    ghost law: { (op : Self.Op) (offset : Offset) (x0 x1 y0 y1 : Self.Share) (x y : ℕ) (d0 d1 : Self.Dealt) →
         is_op op → is_share x0 → is_share x1 → is_share y0 → is_share y1 →
         agree offset op d0 d1 →
         stand_for offset (argument_width op) x0 x1 x →

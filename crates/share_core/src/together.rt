@@ -1,5 +1,6 @@
 ghost use Rattle.std.specs.Prelude.{◌≡◌, ℕ, List, length};
 ghost use Rattle.hy_bits.specs.declared.turns.Role.TheVariants.{P0, P1};
+ghost use Rattle.share_core.specs.declared.labels.Offset.{Offset};
 
 use crate::Sharing;
 use hy_bits::Role;
@@ -26,7 +27,7 @@ pub fn run_both<S: Sharing>(
     requires second { length from_second.old ≡ S.sent_length op P1 }
     ensures from_first { from_first.new ≡ S.message op P0 first.x first.y first.dealt }
     ensures from_second { from_second.new ≡ S.message op P1 second.x second.y second.dealt }
-    ensures opens { (offset : List ℕ) (x y : ℕ) →
+    ensures opens { (offset : Offset) (x y : ℕ) →
         S.is_op op → S.agree offset op first.dealt second.dealt →
         S.stand_for offset (S.argument_width op) first.x second.x x →
         S.stand_for offset (S.argument_width op) first.y second.y y →

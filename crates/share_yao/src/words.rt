@@ -9,24 +9,26 @@ ghost use Rattle.share_core.specs.declared.instr.InstrKind.TheVariants.{InYP0};
 
 use crate::labels::{label_for, low_bit, put_label, read_label};
 use hy_bits::{Role, Width, truncate};
-use share_core::{Half, Instr, InstrKind, byte_count, read_number, write_number};
+use share_core::{Half, Instr, InstrKind, Label, Offset, byte_count, read_number, write_number};
 
 /// A party's labels of a word: for each bit one, the lowest bit's first, and zeros after them.
 #[derive(Clone, Copy)]
 pub struct Labels {
-    pub list: [[u64; 2]; 64],
+    pub list: [Label; 64],
 }
 
 impl Labels {
-    /// Zero labels alone.
+    /// The labels of zeros alone.
     pub fn zero() -> Labels
         ensures { (i : ℕ) → wire result.list i ≡ zero_label }
     {
-        Labels { list: [[0; 2]; 64] }
+        Labels {
+            list: [Label::ZERO; 64],
+        }
     }
 
-    /// Sets the label of bit i.
-    pub fn set(&mut self, i: usize, label: [u64; 2])
+    /// Sets the label of bit `i` to `label`.
+    pub fn set(&mut self, i: usize, label: Label)
         requires { i < 64 }
         ensures here { wire self.new.list i ≡ label }
         ensures others { (k : ℕ) → k ≢ i → wire self.new.list k ≡ wire self.old.list k }
@@ -47,8 +49,8 @@ pub fn instr_sent(instr: &Instr, role: Role) -> usize
     }
 }
 
-/// Writes P0's message for its input x: for each bit the bit's label on the wire whose zero label is dealt.
-pub fn input_send(w: Width, x: u64, offset: [u64; 2], half: &Half, out: &mut [u8])
+/// Writes P0's message for its input `x` into `out`: for each bit the bit's label on the wire whose zero label `half` deals.
+pub fn input_send(w: Width, x: u64, offset: Offset, half: &Half, out: &mut [u8])
     requires { length out.old ≡ 16 * bits w }
     ensures { out.new ≡ input_message_Y w offset x half.now.words }
 {
@@ -58,7 +60,7 @@ pub fn input_send(w: Width, x: u64, offset: [u64; 2], half: &Half, out: &mut [u8
     }
 }
 
-/// The role's labels of an input of P0: P0's are dealt, P1's are received.
+/// The labels that `role` has of an input of P0: P0's are dealt in `half`, P1's are received in `inbox`.
 pub fn input_labels(w: Width, role: Role, half: &Half, inbox: &[u8]) -> Labels
     requires { length inbox.now ≡ sent_Y InYP0 w (other role) }
     ensures labels { (i : ℕ) → i < bits w →
@@ -73,7 +75,7 @@ pub fn input_labels(w: Width, role: Role, half: &Half, inbox: &[u8]) -> Labels
 }
 
 /// The role's label for bit i of an input of P0.
-fn input_label(w: Width, role: Role, half: &Half, inbox: &[u8], i: usize) -> [u64; 2]
+fn input_label(w: Width, role: Role, half: &Half, inbox: &[u8], i: usize) -> Label
     requires sent { length inbox.now ≡ sent_Y InYP0 w (other role) }
     requires within { i < bits w }
     ensures value { result ≡ input_label role half.now.words inbox.now i }
@@ -85,7 +87,7 @@ fn input_label(w: Width, role: Role, half: &Half, inbox: &[u8], i: usize) -> [u6
     }
 }
 
-/// The word of the lowest bits of a word's labels: the party's shares at B of the same word, lowest bit first.
+/// The word of the permute bits of a word's labels, which are the party's shares at B of the same word, lowest bit first.
 pub fn low_bits(w: Width, labels: &Labels) -> u64
     ensures value { result ≡ low_word w (wire labels.now.list) }
     ensures word { IsWord w result }
@@ -97,7 +99,7 @@ pub fn low_bits(w: Width, labels: &Labels) -> u64
     word
 }
 
-/// Writes what a party sends for an opening at Y: the lowest bits of its labels.
+/// Writes what a party sends for an opening at Y into `out`: the permute bits of `labels`.
 pub fn open_send(w: Width, labels: &Labels, out: &mut [u8])
     requires { length out.old ≡ byte_count w }
     ensures { out.new ≡ open_message_Y w (wire labels.now.list) }
@@ -105,7 +107,7 @@ pub fn open_send(w: Width, labels: &Labels, out: &mut [u8])
     write_number(low_bits(w, labels), out);
 }
 
-/// The word that an opening at Y gives, from the party's labels and the other's message.
+/// The word that an opening at Y gives, from the party's `labels` and the other's message `inbox`.
 pub fn opened(w: Width, labels: &Labels, inbox: &[u8]) -> u64
     requires { length inbox.now ≡ byte_count w }
     ensures value { result ≡ opened_Y w (wire labels.now.list) inbox.now }
@@ -114,16 +116,19 @@ pub fn opened(w: Width, labels: &Labels, inbox: &[u8]) -> u64
     truncate(w, low_bits(w, labels) ^ read_number(inbox))
 }
 
-/// The label in two places of a half.
-pub fn dealt_label(half: &Half, at: usize) -> [u64; 2]
+/// The label in places `at` and `at + 1` of `half`.
+pub fn dealt_label(half: &Half, at: usize) -> Label
     requires { at + 1 < 512 }
     ensures value { result ≡ dealt_label half.now.words at }
     ensures label { IsLabel result }
 {
-    [half.words[at], half.words[at + 1]]
+    Label {
+        low: half.words[at],
+        high: half.words[at + 1],
+    }
 }
 
-/// Bit i of a number.
+/// Bit `i` of `x`.
 pub fn bit_of(x: u64, i: usize) -> bool
     requires { i < 64 }
     ensures { result ≡ bit_of x i }

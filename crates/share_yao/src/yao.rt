@@ -8,7 +8,7 @@ ghost use Rattle.share_yao.specs.Law.{yao_law, yao_length_law};
 use crate::gates::{evaluate, garble, zero_of_and};
 use crate::labels::label_xor;
 use hy_bits::Role;
-use share_core::Sharing;
+use share_core::{Label, Offset, Sharing};
 
 /// Labels of garbled circuits: P0 holds a wire's zero label, and P1 the label of the wire's bit.
 pub struct Yao;
@@ -24,11 +24,11 @@ pub enum YaoOp {
 /// What is dealt for an And: the run's offset to P0, and zero to P1.
 #[derive(Clone, Copy, Debug, PartialEq, Eq)]
 pub struct YaoDealt {
-    pub offset: [u64; 2],
+    pub offset: Offset,
 }
 
 impl Sharing for Yao {
-    type Share = [u64; 2];
+    type Share = Label;
 
     type Dealt = YaoDealt;
 
@@ -61,7 +61,7 @@ impl Sharing for Yao {
         }
     }
 
-    fn send(op: YaoOp, role: Role, x: [u64; 2], y: [u64; 2], dealt: YaoDealt, out: &mut [u8]) {
+    fn send(op: YaoOp, role: Role, x: Label, y: Label, dealt: YaoDealt, out: &mut [u8]) {
         match (op, role) {
             (YaoOp::And(gate), Role::P0) => {
                 let _ = garble(gate, x, y, dealt.offset, out);
@@ -70,14 +70,7 @@ impl Sharing for Yao {
         }
     }
 
-    fn finish(
-        op: YaoOp,
-        role: Role,
-        x: [u64; 2],
-        y: [u64; 2],
-        dealt: YaoDealt,
-        inbox: &[u8],
-    ) -> [u64; 2] {
+    fn finish(op: YaoOp, role: Role, x: Label, y: Label, dealt: YaoDealt, inbox: &[u8]) -> Label {
         match (op, role) {
             (YaoOp::And(gate), Role::P0) => zero_of_and(gate, x, y, dealt.offset),
             (YaoOp::And(gate), Role::P1) => evaluate(gate, x, y, inbox),

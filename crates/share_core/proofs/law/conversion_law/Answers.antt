@@ -1,8 +1,11 @@
-use Rattle.share_core.proofs.ConversionLaws.{transfer_opens, sum_opens_Y, b2y, a2y, a2b, b2a, y2a, answers_agree}
+use Rattle.share_core.proofs.ConversionLaws.{transfer_opens, own_opens, sum_opens_Y, b2y, a2y, a2b, b2a, y2a, answers_agree}
 use Rattle.share_core.proofs.law.conversion_law.Goals as goal
 
 pub returns-clause-transfer : goal.returns-clause-transfer
 returns-clause-transfer c = transfer_opens
+
+pub returns-clause-own : goal.returns-clause-own
+returns-clause-own c = own_opens
 
 pub returns-clause-sum : goal.returns-clause-sum
 returns-clause-sum c = sum_opens_Y
