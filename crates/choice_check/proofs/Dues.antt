@@ -5,7 +5,7 @@ use Rattle.std.proofs.lemmas.Bool.Decides.{nat_tests}
 use Rattle.std.proofs.lemmas.List.{length-map, map-append, drop_more, drop_all}
 use Rattle.std.proofs.lemmas.List.Elements.{All-tail, All-cons, All-append, All-nil}
 use Rattle.choice_core.specs.declared.sharings.Choice.{Choice}
-use Rattle.choice_core.specs.declared.problems.Problem.{Problem}
+use Rattle.choice_core.specs.declared.problems.Costs.{Costs}
 use Rattle.choice_core.specs.declared.trees.TreeNode.{TreeNode}
 use Rattle.choice_core.specs.declared.trees.TreeNode.TheVariants.{Branch, Leaf}
 use Rattle.choice_core.specs.Choices.{place}
@@ -49,13 +49,13 @@ ends_tail n due [] some ends = absurd (omega (arith, some))
 ends_tail n due (next ∷ dues) some ends = ends
 
 -- a surplus node
-pub surplus : (p : Problem) (cs : List Choice) (number : ℕ) (node : TreeNode) (path : List Choice) (walk : Walk) → walk.count ≡ 0 → Stops p cs number node path walk (Shape number)
+pub surplus : (p : Costs) (cs : List Choice) (number : ℕ) (node : TreeNode) (path : List Choice) (walk : Walk) → walk.count ≡ 0 → Stops p cs number node path walk (Shape number)
 unfolding IsFaultFrom
 surplus p cs number node path walk none [] is nodes = refl
 surplus p cs number node path walk none (due ∷ dues) is nodes = let size = is.size in absurd (omega (arith, size, none))
 
 -- a branch at a complete prefix
-pub too_deep : (p : Problem) (cs : List Choice) (number : ℕ) (path : List Choice) (walk : Walk) → IsPath p path walk.depth → 0 < walk.count → length p.own ≤ walk.depth → Stops p cs number Branch path walk (Shape number)
+pub too_deep : (p : Costs) (cs : List Choice) (number : ℕ) (path : List Choice) (walk : Walk) → IsPath p path walk.depth → 0 < walk.count → length p.own ≤ walk.depth → Stops p cs number Branch path walk (Shape number)
 unfolding IsFaultFrom
 too_deep p cs number path walk good some deep [] is nodes = let size = is.size in absurd (omega (arith, size, some))
 too_deep p cs number path walk good some deep (due ∷ dues) is nodes =
@@ -64,7 +64,7 @@ too_deep p cs number path walk good some deep (due ∷ dues) is nodes =
     inl (rw first (omega (arith, long, deep)), refl)
 
 -- a leaf that isn't sound
-pub unsound : (p : Problem) (cs : List Choice) (number value : ℕ) (path : List Choice) (walk : Walk) → 0 < walk.count → walk.bound ≡ bound_of p (take walk.depth path) → (IsSound p cs (take walk.depth path) value → ⊥) → Stops p cs number (Leaf value) path walk (LeafFault number walk.bound)
+pub unsound : (p : Costs) (cs : List Choice) (number value : ℕ) (path : List Choice) (walk : Walk) → 0 < walk.count → walk.bound ≡ bound_of p (take walk.depth path) → (IsSound p cs (take walk.depth path) value → ⊥) → Stops p cs number (Leaf value) path walk (LeafFault number walk.bound)
 unfolding IsFaultFrom
 unsound p cs number value path walk some bound bad [] is nodes = let size = is.size in absurd (omega (arith, size, some))
 unsound p cs number value path walk some bound bad (due ∷ dues) is nodes =
@@ -72,7 +72,7 @@ unsound p cs number value path walk some bound bad (due ∷ dues) is nodes =
     inl (rw first (bad, ap (LeafFault number) bound))
 
 -- behind a sound leaf
-pub past_goes : (p : Problem) (cs : List Choice) (number value : ℕ) (path path' : List Choice) (walk walk' : Walk) → 0 < walk.count → IsSound p cs (take walk.depth path) value → walk'.count + 1 ≡ walk.count → walk'.lowest ≡ walk.lowest → siblings p path walk.depth ≡ cond (ltb 0 walk'.depth) (take walk'.depth path' ∷ siblings p path' walk'.depth) [] → GoesOn p cs number (Leaf value) path walk path' walk'
+pub past_goes : (p : Costs) (cs : List Choice) (number value : ℕ) (path path' : List Choice) (walk walk' : Walk) → 0 < walk.count → IsSound p cs (take walk.depth path) value → walk'.count + 1 ≡ walk.count → walk'.lowest ≡ walk.lowest → siblings p path walk.depth ≡ cond (ltb 0 walk'.depth) (take walk'.depth path' ∷ siblings p path' walk'.depth) [] → GoesOn p cs number (Leaf value) path walk path' walk'
 unfolding IsFaultFrom ClosesAll
 past_goes p cs number value path path' walk walk' some sound count lowest next [] is = let size = is.size in absurd (omega (arith, size, some))
 past_goes p cs number value path path' walk walk' some sound count lowest next (due ∷ dues) is =
@@ -98,7 +98,7 @@ past_goes p cs number value path path' walk walk' some sound count lowest next (
     more_due false more same = let none = ap length same ∙ refl in let long = length-map dues (λ (due : Due). due.prefix) in absurd (omega (arith, none, long, more))
 
 -- from a branch to its first child
-pub down_goes : (p : Problem) (cs : List Choice) (number : ℕ) (path : List Choice) (walk walk' : Walk) (c : Choice) → IsPath p path walk.depth → 0 < walk.count → walk.lowest ≤ number → walk.depth < length p.own → choices_from (row_of p walk.depth) 0 ≡ c ∷ choices_from (row_of p walk.depth) (place c + 1) → walk'.depth ≡ walk.depth + 1 → walk'.count + 1 ≡ walk.count + length (choices_from (row_of p walk.depth) 0) → walk'.lowest ≡ cond (eqb walk.count 1) number walk.lowest → GoesOn p cs number Branch path walk (set path walk.depth c) walk'
+pub down_goes : (p : Costs) (cs : List Choice) (number : ℕ) (path : List Choice) (walk walk' : Walk) (c : Choice) → IsPath p path walk.depth → 0 < walk.count → walk.lowest ≤ number → walk.depth < length p.own → choices_from (row_of p walk.depth) 0 ≡ c ∷ choices_from (row_of p walk.depth) (place c + 1) → walk'.depth ≡ walk.depth + 1 → walk'.count + 1 ≡ walk.count + length (choices_from (row_of p walk.depth) 0) → walk'.lowest ≡ cond (eqb walk.count 1) number walk.lowest → GoesOn p cs number Branch path walk (set path walk.depth c) walk'
 unfolding IsFaultFrom ClosesAll EndsAt
 down_goes p cs number path walk walk' c good some below inside is deep count lowest [] was = let size = was.size in absurd (omega (arith, size, some))
 down_goes p cs number path walk walk' c good some below inside is deep count lowest (due ∷ dues) was =
@@ -156,12 +156,12 @@ lowest_one n (due ∷ next ∷ dues) ends =
     let rest = lowest_one n (next ∷ dues) ends in
     (suc rest.0, rest.1, (let within = rest.2 in omega (arith, within)), rest.3, rest.4)
 
-pub lacking : (p : Problem) (cs : List Choice) (number : ℕ) (path : List Choice) (walk : Walk) (dues : List Due) → IsWalk p path walk dues → 0 < walk.count → IsFaultFrom p cs number dues [] (Shape walk.lowest)
+pub lacking : (p : Costs) (cs : List Choice) (number : ℕ) (path : List Choice) (walk : Walk) (dues : List Due) → IsWalk p path walk dues → 0 < walk.count → IsFaultFrom p cs number dues [] (Shape walk.lowest)
 unfolding IsFaultFrom
 lacking p cs number path walk [] is some = let size = is.size in absurd (omega (arith, size, some))
 lacking p cs number path walk (due ∷ dues) is some = (walk.lowest, refl, (lowest_one walk.lowest (due ∷ dues) (is.ends some), is.above))
 
-pub all_done : (p : Problem) (cs : List Choice) (path : List Choice) (walk : Walk) (dues : List Due) → IsWalk p path walk dues → walk.count ≡ 0 → ClosesAll p cs (prefixes dues) []
+pub all_done : (p : Costs) (cs : List Choice) (path : List Choice) (walk : Walk) (dues : List Due) → IsWalk p path walk dues → walk.count ≡ 0 → ClosesAll p cs (prefixes dues) []
 unfolding ClosesAll
 all_done p cs path walk [] is none = tt
 all_done p cs path walk (due ∷ dues) is none = let size = is.size in absurd (omega (arith, size, none))
@@ -170,7 +170,7 @@ all_done p cs path walk (due ∷ dues) is none = let size = is.size in absurd (o
 abbrev pub root : Due
 root = record { branch = 0; prefix = [] }
 
-pub starts : (p : Problem) (path : List Choice) (bound : ℕ) → IsWalk p path (record { depth = 0; count = 1; lowest = 0; bound = bound }) (root ∷ [])
+pub starts : (p : Costs) (path : List Choice) (bound : ℕ) → IsWalk p path (record { depth = 0; count = 1; lowest = 0; bound = bound; parent = bound }) (root ∷ [])
 unfolding EndsAt siblings
 starts p path bound = record {
   size = refl;
@@ -180,28 +180,28 @@ starts p path bound = record {
 }
 
 -- the walk after some nodes: what is left decides for the whole tree
-pub record IsBehind (p : Problem) (cs : List Choice) (nodes : List TreeNode) (path : List Choice) (walk : Walk) (number : ℕ) : Type 0 where
+pub record IsBehind (p : Costs) (cs : List Choice) (nodes : List TreeNode) (path : List Choice) (walk : Walk) (number : ℕ) : Type 0 where
   pub dues : List Due
   pub walks : IsWalk p path walk dues
   pub faults : (fault : TreeFault) → IsFaultFrom p cs number dues (drop number nodes) fault → IsFaultFrom p cs 0 (root ∷ []) nodes fault
   pub closes : ClosesAll p cs (prefixes dues) (drop number nodes) → ClosesAll p cs ([] ∷ []) nodes
 
-pub behind_fault : (p : Problem) (cs : List Choice) (nodes : List TreeNode) (path : List Choice) (walk : Walk) (number : ℕ) (node d : TreeNode) (fault : TreeFault) → number < length nodes → node ≡ get_or nodes number d → IsBehind p cs nodes path walk number → Stops p cs number node path walk fault → IsFaultFrom p cs 0 (root ∷ []) nodes fault
+pub behind_fault : (p : Costs) (cs : List Choice) (nodes : List TreeNode) (path : List Choice) (walk : Walk) (number : ℕ) (node d : TreeNode) (fault : TreeFault) → number < length nodes → node ≡ get_or nodes number d → IsBehind p cs nodes path walk number → Stops p cs number node path walk fault → IsFaultFrom p cs 0 (root ∷ []) nodes fault
 behind_fault p cs nodes path walk number node d fault within is behind stops =
     let split : drop number nodes ≡ node ∷ drop (number + 1) nodes = drop_more nodes number d within ∙ ap (λ (n : TreeNode). n ∷ drop (number + 1) nodes) (sym is) in
     behind.faults fault (rw split (stops behind.dues behind.walks (drop (number + 1) nodes)))
 
-pub behind_start : (p : Problem) (cs : List Choice) (nodes : List TreeNode) (path : List Choice) (bound : ℕ) → IsBehind p cs nodes path (record { depth = 0; count = 1; lowest = 0; bound = bound }) 0
+pub behind_start : (p : Costs) (cs : List Choice) (nodes : List TreeNode) (path : List Choice) (bound : ℕ) → IsBehind p cs nodes path (record { depth = 0; count = 1; lowest = 0; bound = bound; parent = bound }) 0
 behind_start p cs nodes path bound = record { dues = root ∷ []; walks = starts p path bound; faults = λ fault h. h; closes = λ h. h }
 
-pub behind_closes : (p : Problem) (cs : List Choice) (nodes : List TreeNode) (path : List Choice) (walk : Walk) (number : ℕ) → length nodes ≤ number → walk.count ≡ 0 → IsBehind p cs nodes path walk number → ClosesAll p cs ([] ∷ []) nodes
+pub behind_closes : (p : Costs) (cs : List Choice) (nodes : List TreeNode) (path : List Choice) (walk : Walk) (number : ℕ) → length nodes ≤ number → walk.count ≡ 0 → IsBehind p cs nodes path walk number → ClosesAll p cs ([] ∷ []) nodes
 behind_closes p cs nodes path walk number past none behind = behind.closes (rw (drop_all number nodes past) (all_done p cs path walk behind.dues behind.walks none))
 
-pub behind_lacks : (p : Problem) (cs : List Choice) (nodes : List TreeNode) (path : List Choice) (walk : Walk) (number : ℕ) → length nodes ≤ number → 0 < walk.count → IsBehind p cs nodes path walk number → IsFaultFrom p cs 0 (root ∷ []) nodes (Shape walk.lowest)
+pub behind_lacks : (p : Costs) (cs : List Choice) (nodes : List TreeNode) (path : List Choice) (walk : Walk) (number : ℕ) → length nodes ≤ number → 0 < walk.count → IsBehind p cs nodes path walk number → IsFaultFrom p cs 0 (root ∷ []) nodes (Shape walk.lowest)
 behind_lacks p cs nodes path walk number past some behind = behind.faults (Shape walk.lowest) (rw (drop_all number nodes past) (lacking p cs number path walk behind.dues behind.walks some))
 
 -- no tree with a fault closes
-pub fault_refutes : (p : Problem) (cs : List Choice) (number : ℕ) (dues : List Due) (nodes : List TreeNode) (fault : TreeFault) → IsFaultFrom p cs number dues nodes fault → ClosesAll p cs (prefixes dues) nodes → ⊥
+pub fault_refutes : (p : Costs) (cs : List Choice) (number : ℕ) (dues : List Due) (nodes : List TreeNode) (fault : TreeFault) → IsFaultFrom p cs number dues nodes fault → ClosesAll p cs (prefixes dues) nodes → ⊥
 unfolding IsFaultFrom ClosesAll
 fault_refutes p cs number [] [] fault is closes = is
 fault_refutes p cs number [] (node ∷ nodes) fault is closes = closes

@@ -6,7 +6,7 @@ use Rattle.std.proofs.lemmas.List.{drop_more, drop_all}
 use Rattle.choice_core.specs.declared.sharings.Choice.{Choice}
 use Rattle.choice_core.specs.declared.sharings.Choice.TheVariants.{A, Y, C, S}
 use Rattle.choice_core.specs.Choices.{place}
-use Rattle.choice_core.specs.declared.problems.Problem.{Problem}
+use Rattle.choice_core.specs.declared.problems.Costs.{Costs}
 use Rattle.choice_core.specs.Problems.{cost_of}
 use Rattle.choice_core.specs.Bound.{bound_of}
 use Rattle.choice_core.specs.Least.{IsLater, ClosesAt}
@@ -116,7 +116,7 @@ pub not_later : (cs ds : List Choice) → later cs ds ≡ true → cs ≡ ds →
 not_later cs ds is same = let none = later_self ds in let is' = subst (λ (es : List Choice). later es ds ≡ true) same is in absurd (cc)
 
 -- what is left to ask where no other case holds
-pub closes_whole : (p : Problem) (cs prefix : List Choice) (b : Bool) → MatchBool b (prefix ≡ cs) (prefix ≡ cs → ⊥) → (cost_of p cs < bound_of p prefix → ⊥) → (bound_of p prefix ≡ cost_of p cs → later prefix cs ≡ true → ⊥) → MatchBool b (ClosesAt p cs prefix) (ClosesAt p cs prefix → ⊥)
+pub closes_whole : (p : Costs) (cs prefix : List Choice) (b : Bool) → MatchBool b (prefix ≡ cs) (prefix ≡ cs → ⊥) → (cost_of p cs < bound_of p prefix → ⊥) → (bound_of p prefix ≡ cost_of p cs → later prefix cs ≡ true → ⊥) → MatchBool b (ClosesAt p cs prefix) (ClosesAt p cs prefix → ⊥)
 closes_whole p cs prefix true same no_more no_later = inr (inr same)
 closes_whole p cs prefix false apart no_more no_later = λ (closes : ClosesAt p cs prefix). elim closes [
   | inl more ↦ no_more more

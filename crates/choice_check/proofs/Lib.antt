@@ -1,5 +1,4 @@
 mod Later
 mod Siblings
 mod Dues
-mod Three
 mod Prefixes

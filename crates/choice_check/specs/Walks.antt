@@ -2,7 +2,7 @@
 use Rattle.std.specs.Prelude.{◌≡◌, ℕ, zero, suc, ◌+◌, ◌<◌, ◌≤◌, Bool, false, cond, ◌==◌, nat_lt, All, List, [], ◌∷◌, ◌++◌, length, take, drop, map, filter, is_some, slice_index_or}
 use Rattle.choice_core.specs.declared.sharings.Choice.{Choice}
 use Rattle.choice_core.specs.declared.sharings.Choice.TheVariants.{A, Y, C, S}
-use Rattle.choice_core.specs.declared.problems.Problem.{Problem}
+use Rattle.choice_core.specs.declared.problems.Costs.{Costs}
 use Rattle.choice_core.specs.declared.trees.TreeNode.{TreeNode}
 use Rattle.choice_core.specs.Choices.{place}
 use Rattle.choice_core.specs.Problems.{Row, own_of, Fits}
@@ -15,7 +15,7 @@ use Rattle.choice_check.specs.Faults.{Due, IsFaultFrom}
 abbrev pub choices_from : Row → ℕ → List Choice
 choices_from row low = filter (λ c. is_some (own_of row c)) (drop low (A ∷ Y ∷ C ∷ S ∷ []))
 
-abbrev pub row_of : Problem → ℕ → Row
+abbrev pub row_of : Costs → ℕ → Row
 row_of p m = slice_index_or p.own m []
 
 -- the path's first k choices and one more
@@ -23,7 +23,7 @@ abbrev pub with_choices : List Choice → ℕ → List Choice → List (List Cho
 with_choices path k cs = map (λ c. take k path ++ c ∷ []) cs
 
 -- the later siblings of the path's first k choices, and of each shorter part of them
-unfoldable pub siblings : Problem → List Choice → ℕ → List (List Choice)
+unfoldable pub siblings : Costs → List Choice → ℕ → List (List Choice)
 siblings p path zero = []
 siblings p path (suc k) = with_choices path k (choices_from (row_of p k) (place (slice_index_or path k A) + 1)) ++ siblings p path k
 
@@ -34,7 +34,7 @@ later (c ∷ cs) [] = false
 later (c ∷ cs) (d ∷ ds) = cond (place c == place d) (later cs ds) (nat_lt (place d) (place c))
 
 -- the path's first choices are allowed ones
-pub record IsPath (p : Problem) (path : List Choice) (depth : ℕ) : Type 0 where
+pub record IsPath (p : Costs) (path : List Choice) (depth : ℕ) : Type 0 where
   pub size : length path ≡ length p.own
   pub within : depth ≤ length path
   pub fits : Fits p.own (take depth path)
@@ -49,14 +49,14 @@ abbrev pub prefixes : List Due → List (List Choice)
 prefixes dues = map (λ (due : Due). due.prefix) dues
 
 -- what is due at a walk
-pub record IsWalk (p : Problem) (path : List Choice) (walk : Walk) (dues : List Due) : Type 0 where
+pub record IsWalk (p : Costs) (path : List Choice) (walk : Walk) (dues : List Due) : Type 0 where
   pub size : walk.count ≡ length dues
   pub due : 0 < walk.count → prefixes dues ≡ take walk.depth path ∷ siblings p path walk.depth
   pub above : All (λ (due : Due). walk.lowest ≤ due.branch) dues
   pub ends : 0 < walk.count → EndsAt walk.lowest dues
 
 -- the node is sound, and the walk goes on behind it
-abbrev pub GoesOn : Problem → List Choice → ℕ → TreeNode → List Choice → Walk → List Choice → Walk → Type 0
+abbrev pub GoesOn : Costs → List Choice → ℕ → TreeNode → List Choice → Walk → List Choice → Walk → Type 0
 GoesOn p cs number node path walk path' walk' =
     (dues : List Due) → IsWalk p path walk dues →
     (rest : List Due) × IsWalk p path' walk' rest
@@ -64,6 +64,6 @@ GoesOn p cs number node path walk path' walk' =
     × ((nodes : List TreeNode) → ClosesAll p cs (prefixes rest) nodes → ClosesAll p cs (prefixes dues) (node ∷ nodes))
 
 -- the node has the fault
-abbrev pub Stops : Problem → List Choice → ℕ → TreeNode → List Choice → Walk → TreeFault → Type 0
+abbrev pub Stops : Costs → List Choice → ℕ → TreeNode → List Choice → Walk → TreeFault → Type 0
 Stops p cs number node path walk fault =
     (dues : List Due) → IsWalk p path walk dues → (nodes : List TreeNode) → IsFaultFrom p cs number dues (node ∷ nodes) fault

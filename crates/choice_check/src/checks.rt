@@ -13,8 +13,8 @@ use choice_core::{Choice, Problem, Tree, bound, cost};
 /// The first node in preorder is named that is a leaf without its prefix's bound or whose prefix
 /// doesn't close, a branch at a complete prefix, or surplus; where there is none, the lowest
 /// numbered branch that lacks a child, and 0 for a tree without nodes. `buffer` is overwritten. It
-/// takes no memory. Its time is that of `bound` once and of `rise` for each node, as it comes and as it
-/// goes; a leaf whose bound is the cost is compared with the choices besides.
+/// takes no memory. Its time is that of `bound` once, of `rise` for each node but those with S after the same with C, and of `rise` for each branch once
+/// more; a leaf whose bound is the cost is compared with the choices besides.
 pub fn check(
     problem: &Problem,
     choices: &[Choice],
@@ -31,11 +31,13 @@ pub fn check(
     ensures only { Closes problem.now choices.now tree.now.nodes → IsOk result }
 {
     let cost = cost(problem, choices);
+    let bound = bound(problem, &buffer[..0]);
     let mut walk = Walk {
         depth: 0,
         count: 1,
         lowest: 0,
-        bound: bound(problem, &buffer[..0]),
+        bound,
+        parent: bound,
     };
     for (number, node) in tree.nodes.as_slice().iter().enumerate() {
         walk = step(problem, choices, cost, number as u32, *node, buffer, walk)?;

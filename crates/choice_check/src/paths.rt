@@ -1,12 +1,12 @@
 //! The allowed choices of a module, and paths through them.
 
-ghost use Rattle.std.specs.Prelude.{◌≡◌, ◌+◌, ◌<◌, ◌≤◌, cond, is_some, nat_lt, length, take, [], ◌∷◌, MatchOption, IsSome};
+ghost use Rattle.std.specs.Prelude.{◌≡◌, ◌+◌, ◌-◌, ◌<◌, ◌≤◌, cond, is_some, nat_lt, length, slice_set, take, [], ◌∷◌, MatchOption, IsSome};
 ghost use Rattle.choice_core.specs.Choices.{place};
 ghost use Rattle.choice_core.specs.Problems.{own_of, HasChoice, IsProblem};
 ghost use Rattle.choice_core.specs.Bound.{bound_of};
 ghost use Rattle.choice_check.specs.Walks.{choices_from, row_of, siblings, IsPath};
 
-use choice_core::{Choice, Problem, rise};
+use choice_core::{Choice, Problem, rise, shallow_bound};
 
 /// The choice of a place in the order A, Y, C, S.
 fn choice_at(number: usize) -> Choice
@@ -82,25 +82,90 @@ fn bound_without(problem: &Problem, path: &[Choice], number: usize, bound: u64) 
     bound - rise(problem, &path[..number + 1])
 }
 
-/// Makes the path's first choices those of the next prefix that is due behind them, and answers
-/// how many these are, or 0 where none is due, and their bound. The time is that of `rise` for each
-/// choice that it drops.
-pub fn advance(problem: &Problem, path: &mut [Choice], depth: usize, bound: u64) -> (usize, u64)
+/// The bound of the path's first choices without the last of them, where there are any, by their own bound.
+fn parent_bound(problem: &Problem, path: &[Choice], depth: usize, bound: u64) -> u64
+    requires problem { IsProblem problem.now }
+    requires path { IsPath problem.now path.now depth }
+    requires bound { bound ≡ bound_of problem.now (take depth path.now) }
+    ensures { result ≡ bound_of problem.now (take (depth - 1) path.now) }
+{
+    if depth == 0 {
+        return bound;
+    }
+    bound_without(problem, path, depth - 1, bound)
+}
+
+/// The bound of the path's first choices with another one in place of the one of this number, by that with it and that of
+/// those before it. The other choice is written into the path.
+fn bound_beside(
+    problem: &Problem,
+    path: &mut [Choice],
+    number: usize,
+    choice: Choice,
+    bound: u64,
+    parent: u64,
+) -> u64
+    requires problem { IsProblem problem.now }
+    requires path { IsPath problem.now path.old (number + 1) }
+    requires allowed { IsSome (own_of (row_of problem.now number) choice) }
+    requires bound { bound ≡ bound_of problem.now (take (number + 1) path.old) }
+    requires parent { parent ≡ bound_of problem.now (take number path.old) }
+    ensures path { path.new ≡ slice_set path.old number choice }
+    ensures bound { result ≡ bound_of problem.now (take (number + 1) path.new) }
+{
+    let before = path[number];
+    path[number] = choice;
+    match (before, choice) {
+        (Choice::C, Choice::S) => shallow_bound(problem, &path[..number], bound),
+        _ => bound_with(problem, path, number, parent),
+    }
+}
+
+/// The next prefix that is due: how many of the path's choices it has, 0 where none is due, its bound, and that of the
+/// prefix without its last choice.
+#[derive(Clone, Copy)]
+pub struct Next {
+    pub depth: usize,
+    pub bound: u64,
+    pub parent: u64,
+}
+
+/// Makes the path's first choices those of the next prefix that is due after them. The time is that of `rise` for each choice
+/// that it drops but the last, and for one more; where S comes in place of C there is none more.
+pub fn advance(
+    problem: &Problem,
+    path: &mut [Choice],
+    depth: usize,
+    bound: u64,
+    parent: u64,
+) -> Next
     requires problem { IsProblem problem.now }
     requires path { IsPath problem.now path.old depth }
     requires bound { bound ≡ bound_of problem.now (take depth path.old) }
-    ensures path { IsPath problem.now path.new result.0 }
-    ensures next { siblings problem.now path.old depth ≡ cond (nat_lt 0 result.0) (take result.0 path.new ∷ siblings problem.now path.new result.0) [] }
-    ensures bound { result.1 ≡ bound_of problem.now (take result.0 path.new) }
+    requires parent { parent ≡ bound_of problem.now (take (depth - 1) path.old) }
+    ensures path { IsPath problem.now path.new result.depth }
+    ensures next { siblings problem.now path.old depth ≡ cond (nat_lt 0 result.depth) (take result.depth path.new ∷ siblings problem.now path.new result.depth) [] }
+    ensures bound { result.bound ≡ bound_of problem.now (take result.depth path.new) }
+    ensures parent { result.parent ≡ bound_of problem.now (take (result.depth - 1) path.new) }
 {
-    let rows = problem.own.as_slice();
-    let mut left = bound;
+    let rows = problem.own();
+    let mut bound = bound;
+    let mut parent = parent;
     for number in (0..depth).rev() {
-        left = bound_without(problem, path, number, left);
         if let Some(choice) = next_choice(&rows[number], path[number].place() + 1) {
-            path[number] = choice;
-            return (number + 1, bound_with(problem, path, number, left));
+            let bound = bound_beside(problem, path, number, choice, bound, parent);
+            return Next {
+                depth: number + 1,
+                bound,
+                parent,
+            };
         }
+        bound = parent;
+        parent = parent_bound(problem, path, number, bound);
     }
-    (0, left)
+    Next {
+        depth: 0,
+        bound,
+        parent,
+    }
 }

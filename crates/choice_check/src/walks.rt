@@ -1,6 +1,6 @@
 //! A walk through the nodes of a tree.
 
-ghost use Rattle.std.specs.Prelude.{◌≡◌, ◌+◌, ◌^◌, ◌<◌, ◌≤◌, ◌==◌, cond, length, take, MatchResult, IfOk};
+ghost use Rattle.std.specs.Prelude.{◌≡◌, ◌+◌, ◌-◌, ◌^◌, ◌<◌, ◌≤◌, ◌==◌, cond, length, take, MatchResult, IfOk};
 ghost use Rattle.choice_core.specs.Problems.{cost_of, IsProblem};
 ghost use Rattle.choice_core.specs.Bound.{bound_of};
 ghost use Rattle.choice_check.specs.Walks.{IsPath, GoesOn, Stops};
@@ -11,14 +11,15 @@ use crate::paths::{advance, bound_with, count_choices, first_choice};
 use choice_core::{Choice, Problem, TreeNode};
 
 /// Where a walk stands: how many choices of the path the next prefix has that is due, how many
-/// prefixes are due, the lowest number among the branches that still lack a child, and the bound of
-/// that prefix.
+/// prefixes are due, the lowest number among the branches that still lack a child, the bound of that prefix, and
+/// that of the prefix without its last choice.
 #[derive(Clone, Copy)]
 pub struct Walk {
     pub depth: usize,
     pub count: usize,
     pub lowest: u32,
     pub bound: u64,
+    pub parent: u64,
 }
 
 /// The lowest number among the branches that lack a child, where one more branch begins: the others
@@ -46,10 +47,11 @@ fn down(
     ensures node { MatchResult result (λ w. GoesOn problem.now choices.now number TreeNode.Branch path.old walk path.new w) (λ f. Stops problem.now choices.now number TreeNode.Branch path.old walk f) }
     ensures path { IfOk result (λ w. IsPath problem.now path.new w.depth) }
     ensures bound { IfOk result (λ w. w.bound ≡ bound_of problem.now (take w.depth path.new)) }
+    ensures parent { IfOk result (λ w. w.parent ≡ bound_of problem.now (take (w.depth - 1) path.new)) }
     ensures few { IfOk result (λ w. w.count ≤ walk.count + 3) }
     ensures lowest { IfOk result (λ w. w.lowest ≤ number) }
 {
-    let rows = problem.own.as_slice();
+    let rows = problem.own();
     if walk.depth >= rows.len() {
         return Err(TreeFault::Shape(number));
     }
@@ -60,6 +62,7 @@ fn down(
         count: walk.count - 1 + count_choices(row),
         lowest: lowest_below(walk, number),
         bound: bound_with(problem, path, walk.depth, walk.bound),
+        parent: walk.bound,
     })
 }
 
@@ -77,10 +80,12 @@ fn past(
     requires cost { cost ≡ cost_of problem.now choices.now }
     requires path { IsPath problem.now path.old walk.depth }
     requires bound { walk.bound ≡ bound_of problem.now (take walk.depth path.old) }
+    requires parent { walk.parent ≡ bound_of problem.now (take (walk.depth - 1) path.old) }
     requires some { 0 < walk.count }
     ensures node { MatchResult result (λ w. GoesOn problem.now choices.now number (TreeNode.Leaf value) path.old walk path.new w) (λ f. Stops problem.now choices.now number (TreeNode.Leaf value) path.old walk f) }
     ensures path { IfOk result (λ w. IsPath problem.now path.new w.depth) }
     ensures bound { IfOk result (λ w. w.bound ≡ bound_of problem.now (take w.depth path.new)) }
+    ensures parent { IfOk result (λ w. w.parent ≡ bound_of problem.now (take (w.depth - 1) path.new)) }
     ensures few { IfOk result (λ w. w.count ≤ walk.count) }
     ensures lowest { IfOk result (λ w. w.lowest ≡ walk.lowest) }
 {
@@ -88,12 +93,13 @@ fn past(
     if value != walk.bound || !closes(problem, choices, cost, prefix, walk.bound) {
         return Err(TreeFault::Leaf(number, walk.bound));
     }
-    let (depth, bound) = advance(problem, path, walk.depth, walk.bound);
+    let next = advance(problem, path, walk.depth, walk.bound, walk.parent);
     Ok(Walk {
-        depth,
+        depth: next.depth,
         count: walk.count - 1,
         lowest: walk.lowest,
-        bound,
+        bound: next.bound,
+        parent: next.parent,
     })
 }
 
@@ -111,11 +117,13 @@ pub fn step(
     requires cost { cost ≡ cost_of problem.now choices.now }
     requires path { IsPath problem.now path.old walk.depth }
     requires bound { walk.bound ≡ bound_of problem.now (take walk.depth path.old) }
+    requires parent { walk.parent ≡ bound_of problem.now (take (walk.depth - 1) path.old) }
     requires few { walk.count < 2 ^ 60 }
     requires lowest { walk.lowest ≤ number }
     ensures node { MatchResult result (λ w. GoesOn problem.now choices.now number node path.old walk path.new w) (λ f. Stops problem.now choices.now number node path.old walk f) }
     ensures path { IfOk result (λ w. IsPath problem.now path.new w.depth) }
     ensures bound { IfOk result (λ w. w.bound ≡ bound_of problem.now (take w.depth path.new)) }
+    ensures parent { IfOk result (λ w. w.parent ≡ bound_of problem.now (take (w.depth - 1) path.new)) }
     ensures few { IfOk result (λ w. w.count ≤ walk.count + 3) }
     ensures lowest { IfOk result (λ w. w.lowest ≤ number) }
 {

@@ -13,7 +13,7 @@ use Rattle.choice_core.specs.declared.sharings.Choice.TheVariants.{A}
 use Rattle.choice_core.specs.declared.sharings.Sharing.{Sharing}
 use Rattle.choice_core.specs.declared.sharings.Sharing.TheVariants.{Arithmetic, Boolean, Yao}
 use Rattle.choice_core.specs.declared.problems.Fan.{Fan}
-use Rattle.choice_core.specs.declared.problems.Problem.{Problem}
+use Rattle.choice_core.specs.declared.problems.Costs.{Costs}
 use Rattle.choice_core.specs.Choices.{sharing_of}
 use Rattle.choice_core.specs.Problems.{Row, own_of, own_sum, sharing_at, reaches, charge, fan_cost_from, fan_cost, cost_of, Ascends, IsFan, IsProblem, touches, AreTouching, next_from, is_at}
 use Rattle.choice_core.specs.Bound.{least, further_from, further, due, least_at, least_price}
@@ -22,7 +22,7 @@ use Rattle.choice_core.proofs.Sums.{sum_add, least_le, least_from}
 use Rattle.choice_core.proofs.Steps.{sharing_before, sharing_here, sharing_none, paid_at, reaches_more, next_more, none_past, charges_more, charges_stay, placed_some, or_nothing}
 
 -- the least prices of the fans whose producer is past the first k modules
-abbrev pub unplaced : Problem → ℕ → ℕ
+abbrev pub unplaced : Costs → ℕ → ℕ
 unplaced p k = sum_by (λ f. cond (nat_lt f.from k) 0 (least_price p.own f)) p.fans
 
 -- what a fan adds at a module: something at its next consumer alone
@@ -148,7 +148,7 @@ added_more n f prefix c m t fan past = elim (cases_eq f.from (length prefix)) [
         ]
 
 -- what a sharing adds at a module with one more choice
-pub due_grows : (p : Problem) → IsProblem p → (prefix : List Choice) (c : Choice) (m : ℕ) (t : Sharing) → length prefix < m → due p.fans (prefix ++ c ∷ []) m t ≡ due p.fans prefix m t + sum_by (λ f. added f (prefix ++ c ∷ []) m t) (filter (λ f. touches f (length prefix)) p.fans)
+pub due_grows : (p : Costs) → IsProblem p → (prefix : List Choice) (c : Choice) (m : ℕ) (t : Sharing) → length prefix < m → due p.fans (prefix ++ c ∷ []) m t ≡ due p.fans prefix m t + sum_by (λ f. added f (prefix ++ c ∷ []) m t) (filter (λ f. touches f (length prefix)) p.fans)
 unfolding due
 due_grows p problem prefix c m t past =
     let same = sum_same (IsFan (length p.own)) (λ f. added f (prefix ++ c ∷ []) m t) (λ f. added f prefix m t + cond (touches f (length prefix)) (added f (prefix ++ c ∷ []) m t) 0) p.fans problem.fans (λ f fan. added_more (length p.own) f prefix c m t fan past) in
@@ -157,7 +157,7 @@ due_grows p problem prefix c m t past =
     omega (arith, same, sums, kept)
 
 -- the cost with one more choice
-pub cost_grows : (p : Problem) → IsProblem p → (prefix : List Choice) (c : Choice) → cost_of p (prefix ++ c ∷ []) ≡ own_sum p.own (prefix ++ c ∷ []) + sum_by (λ f. fan_cost f prefix) p.fans + due p.fans prefix (length prefix) (sharing_of c)
+pub cost_grows : (p : Costs) → IsProblem p → (prefix : List Choice) (c : Choice) → cost_of p (prefix ++ c ∷ []) ≡ own_sum p.own (prefix ++ c ∷ []) + sum_by (λ f. fan_cost f prefix) p.fans + due p.fans prefix (length prefix) (sharing_of c)
 unfolding due
 cost_grows p problem prefix c =
     let same = sum_same (IsFan (length p.own)) (λ f. fan_cost f (prefix ++ c ∷ [])) (λ f. fan_cost f prefix + paid_at f prefix (length prefix) c) p.fans problem.fans (λ f fan. cost_more (length p.own) f prefix c fan) in
@@ -195,7 +195,7 @@ lost_one rows k f = elim (cases_eq f.from k) [
     more true x = omega arith
     more false x = omega arith
 
-pub unplaced_falls : (p : Problem) (k : ℕ) → unplaced p k ≡ unplaced p (k + 1) + sum_by (lost p.own k) (filter (λ f. touches f k) p.fans)
+pub unplaced_falls : (p : Costs) (k : ℕ) → unplaced p k ≡ unplaced p (k + 1) + sum_by (lost p.own k) (filter (λ f. touches f k) p.fans)
 unplaced_falls p k =
     let same = same_sums (λ f. cond (nat_lt f.from k) 0 (least_price p.own f)) (λ f. cond (nat_lt f.from (k + 1)) 0 (least_price p.own f) + cond (touches f k) (lost p.own k f) 0) p.fans (lost_one p.own k) in
     let sums = sum_add (λ f. cond (nat_lt f.from (k + 1)) 0 (least_price p.own f)) (λ f. cond (touches f k) (lost p.own k f) 0) p.fans in
@@ -278,7 +278,7 @@ lost_at rows k f = (
   λ apart. (let is : eqb f.from k ≡ false = grind (arith, nat_tests) in rw is refl),
 )
 
-pub touched_fan : (p : Problem) → IsProblem p → (k : ℕ) (i : ℕ) (item : Fan) → i < length (filter (λ f. touches f k) p.fans) → item ≡ get_or (filter (λ f. touches f k) p.fans) i item → IsFan (length p.own) item
+pub touched_fan : (p : Costs) → IsProblem p → (k : ℕ) (i : ℕ) (item : Fan) → i < length (filter (λ f. touches f k) p.fans) → item ≡ get_or (filter (λ f. touches f k) p.fans) i item → IsFan (length p.own) item
 touched_fan p problem k i item within is =
     subst (λ (f : Fan). IsFan (length p.own) f) (sym is) (All-get_or (IsFan (length p.own)) (filter (λ f. touches f k) p.fans) i item within (All-filter (λ f. touches f k) (IsFan (length p.own)) p.fans problem.fans))
 
@@ -289,7 +289,7 @@ last_split cs some d =
     let all = take_all (length cs - 1 + 1) cs (omega arith) in
     (sym all ∙ more, length-take-le (length cs - 1) cs (omega arith))
 
-pub due_grown : (p : Problem) → IsProblem p → (cs : List Choice) → 0 < length cs → (m : ℕ) (t : Sharing) → length cs ≤ m → due p.fans cs m t ≡ due p.fans (before_last cs) m t + sum_by (λ f. added f cs m t) (filter (λ f. touches f (length cs - 1)) p.fans)
+pub due_grown : (p : Costs) → IsProblem p → (cs : List Choice) → 0 < length cs → (m : ℕ) (t : Sharing) → length cs ≤ m → due p.fans cs m t ≡ due p.fans (before_last cs) m t + sum_by (λ f. added f cs m t) (filter (λ f. touches f (length cs - 1)) p.fans)
 due_grown p problem cs some m t past =
     let split = last_split cs some A in
     let grows = due_grows p problem (before_last cs) (get_or cs (length cs - 1) A) m t (omega (arith, split.1)) in

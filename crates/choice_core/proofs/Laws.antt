@@ -8,7 +8,7 @@ use Rattle.std.proofs.lemmas.Bool.Decides.{nat_tests}
 use Rattle.std.proofs.lemmas.List.{length_push, get_or-drop, drop-drop, drop_all, append-nil}
 use Rattle.choice_core.specs.declared.sharings.Choice.{Choice}
 use Rattle.choice_core.specs.declared.sharings.Choice.TheVariants.{A, Y, C, S}
-use Rattle.choice_core.specs.declared.problems.Problem.{Problem}
+use Rattle.choice_core.specs.declared.problems.Costs.{Costs}
 use Rattle.choice_core.specs.declared.trees.TreeNode.{TreeNode}
 use Rattle.choice_core.specs.declared.trees.TreeNode.TheVariants.{Branch, Leaf}
 use Rattle.choice_core.specs.Choices.{place}
@@ -29,7 +29,7 @@ fits_push [] c allowed some cs fits = absurd (omega arith)
 fits_push (row ∷ rows) c allowed some cs fits = (allowed, fits)
 
 -- one more choice
-bound_step : (p : Problem) → IsProblem p → (prefix : List Choice) (c : Choice) → Fits p.own (prefix ++ c ∷ []) → bound_of p prefix ≤ bound_of p (prefix ++ c ∷ [])
+bound_step : (p : Costs) → IsProblem p → (prefix : List Choice) (c : Choice) → Fits p.own (prefix ++ c ∷ []) → bound_of p prefix ≤ bound_of p (prefix ++ c ∷ [])
 bound_step p problem prefix c fits =
     let k = length prefix in
     let right = Fits-right p.own prefix (c ∷ []) fits in
@@ -50,7 +50,7 @@ bound_step p problem prefix c fits =
     omega (arith, below, terms, same, found.3)
 
 -- a longer prefix has no lesser bound
-pub bound_rises : (p : Problem) → IsProblem p → (prefix rest : List Choice) → Fits p.own (prefix ++ rest) → bound_of p prefix ≤ bound_of p (prefix ++ rest)
+pub bound_rises : (p : Costs) → IsProblem p → (prefix rest : List Choice) → Fits p.own (prefix ++ rest) → bound_of p prefix ≤ bound_of p (prefix ++ rest)
 bound_rises p problem prefix [] fits = rw (append-nil prefix) (omega arith)
 bound_rises p problem prefix (c ∷ rest) fits =
     let same : prefix ++ c ∷ rest ≡ (prefix ++ c ∷ []) ++ rest = sym (append_assoc prefix (c ∷ []) rest) in
@@ -60,7 +60,7 @@ bound_rises p problem prefix (c ∷ rest) fits =
     rw same (omega (arith, one, more))
 
 -- the bound of a complete list is its cost
-pub bound_of_whole : (p : Problem) → IsProblem p → (cs : List Choice) → length cs ≡ length p.own → bound_of p cs ≡ cost_of p cs
+pub bound_of_whole : (p : Costs) → IsProblem p → (cs : List Choice) → length cs ≡ length p.own → bound_of p cs ≡ cost_of p cs
 unfolding least_past
 bound_of_whole p problem cs whole =
     let none = sum_zero (IsFan (length p.own)) (λ f. cond (nat_lt f.from (length cs)) 0 (least_price p.own f)) p.fans problem.fans
@@ -70,7 +70,7 @@ bound_of_whole p problem cs whole =
     rw past (omega (arith, none))
 
 -- the bound of a prefix is at most the cost of each complete list that extends it
-pub bound_below : (p : Problem) → IsProblem p → (prefix rest : List Choice) → IsAssignment p (prefix ++ rest) → bound_of p prefix ≤ cost_of p (prefix ++ rest)
+pub bound_below : (p : Costs) → IsProblem p → (prefix rest : List Choice) → IsAssignment p (prefix ++ rest) → bound_of p prefix ≤ cost_of p (prefix ++ rest)
 bound_below p problem prefix rest assigned =
     let rises = bound_rises p problem prefix rest assigned.fits in
     let whole = bound_of_whole p problem (prefix ++ rest) assigned.whole in
@@ -83,11 +83,11 @@ later_on (c ∷ prefix) [] rest later = absurd later
 later_on (c ∷ prefix) (d ∷ cs) rest (inl more) = inl more
 later_on (c ∷ prefix) (d ∷ cs) rest (inr (same, later)) = inr (same, later_on prefix cs rest later)
 
-abbrev pub Before : Problem → List Choice → List Choice → Type 0
+abbrev pub Before : Costs → List Choice → List Choice → Type 0
 Before p cs ds = (cost_of p cs < cost_of p ds) ⊎ ((cost_of p cs ≡ cost_of p ds) × (IsLater ds cs ⊎ (ds ≡ cs)))
 
 -- below a prefix that closes, nothing comes before the given list
-pub closes_below : (p : Problem) → IsProblem p → (cs prefix rest : List Choice) → IsAssignment p cs → IsAssignment p (prefix ++ rest) → ClosesAt p cs prefix → Before p cs (prefix ++ rest)
+pub closes_below : (p : Costs) → IsProblem p → (cs prefix rest : List Choice) → IsAssignment p cs → IsAssignment p (prefix ++ rest) → ClosesAt p cs prefix → Before p cs (prefix ++ rest)
 closes_below p problem cs prefix rest assigned other (inl more) = let below = bound_below p problem prefix rest other in inl (omega (arith, below, more))
 closes_below p problem cs prefix rest assigned other (inr (inl (same, later))) =
     let below = bound_below p problem prefix rest other in
@@ -143,7 +143,7 @@ is_some_true None some = some
 is_some_true (Some x) some = refl
 
 -- of all lists that extend the prefixes at which the nodes stand, none comes before the given one
-tree_below : (p : Problem) → IsProblem p → (cs : List Choice) → IsAssignment p cs → (prefixes : List (List Choice)) (nodes : List TreeNode) → ClosesAll p cs prefixes nodes → (ds : List Choice) → IsAssignment p ds → Among prefixes ds → Before p cs ds
+tree_below : (p : Costs) → IsProblem p → (cs : List Choice) → IsAssignment p cs → (prefixes : List (List Choice)) (nodes : List TreeNode) → ClosesAll p cs prefixes nodes → (ds : List Choice) → IsAssignment p ds → Among prefixes ds → Before p cs ds
 unfolding ClosesAll Among
 tree_below p problem cs assigned [] nodes closes ds other among = absurd among
 tree_below p problem cs assigned (prefix ∷ more) [] closes ds other among = absurd closes
@@ -162,7 +162,7 @@ tree_below p problem cs assigned (prefix ∷ more) (Branch ∷ nodes) closes ds 
     tree_below p problem cs assigned (children p prefix ++ more) nodes closes.1 ds other (among_right (children p prefix) more ds among)
 
 -- a tree that closes shows the least list
-pub closes_least : (p : Problem) → IsProblem p → (cs : List Choice) → IsAssignment p cs → (nodes : List TreeNode) → Closes p cs nodes → IsLeast p cs
+pub closes_least : (p : Costs) → IsProblem p → (cs : List Choice) → IsAssignment p cs → (nodes : List TreeNode) → Closes p cs nodes → IsLeast p cs
 unfolding Among
 closes_least p problem cs assigned nodes closes = record {
   assigned = assigned;
@@ -179,7 +179,7 @@ not_both_later (c ∷ cs) (d ∷ ds) (inr (same, later)) (inl more) = let places
 not_both_later (c ∷ cs) (d ∷ ds) (inr (same, one)) (inr (back, two)) = not_both_later cs ds one two
 
 -- a problem has one least list
-pub least_same : (p : Problem) (cs ds : List Choice) → IsLeast p cs → IsLeast p ds → cs ≡ ds
+pub least_same : (p : Costs) (cs ds : List Choice) → IsLeast p cs → IsLeast p ds → cs ≡ ds
 least_same p cs ds one two = by_both (one.before_all ds two.assigned) (two.before_all cs one.assigned)
   where
     by_both : Before p cs ds → Before p ds cs → cs ≡ ds

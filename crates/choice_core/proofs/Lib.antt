@@ -4,7 +4,6 @@ pub mod Laws
 pub mod Limits
 mod Walks
 mod Loops
-mod Ladders
 mod Growth
 pub mod Parts
 mod Rises

@@ -10,7 +10,7 @@ use Rattle.choice_core.specs.declared.sharings.Choice.TheVariants.{A, Y, C, S}
 use Rattle.choice_core.specs.declared.sharings.Sharing.{Sharing}
 use Rattle.choice_core.specs.declared.sharings.Sharing.TheVariants.{Arithmetic, Boolean, Yao}
 use Rattle.choice_core.specs.declared.problems.Fan.{Fan}
-use Rattle.choice_core.specs.declared.problems.Problem.{Problem}
+use Rattle.choice_core.specs.declared.problems.Costs.{Costs}
 use Rattle.choice_core.specs.Choices.{same_sharing}
 use Rattle.choice_core.specs.Problems.{Row, own_of, price_of, own_sum, sharing_at, reaches, charge, fan_cost_from, fan_cost, cost_of, Fits, HasChoice, IsProblem, greatest_own, greatest_price, next_from, is_at}
 use Rattle.choice_core.specs.Bound.{further_from, further, due, bound_of}
@@ -67,7 +67,7 @@ own_sum_le (row ∷ rows) (c ∷ cs) = rw (sum_by-cons greatest_own row rows) (l
 pub fans_sum_le : (fans : List Fan) (cs : List Choice) → sum_by (λ f. fan_cost f cs) fans ≤ sum_by (λ f. 2 * greatest_price f) fans
 fans_sum_le fans cs = sum_by-le-sum_by (λ f. fan_cost f cs) (λ f. 2 * greatest_price f) fans (λ f. fan_cost_le f cs (sharing_at cs f.from))
 
-pub cost_small : (p : Problem) → IsProblem p → (cs : List Choice) → cost_of p cs < 2 ^ 63
+pub cost_small : (p : Costs) → IsProblem p → (cs : List Choice) → cost_of p cs < 2 ^ 63
 cost_small p problem cs = omega (arith, problem.small, own_sum_le p.own cs, fans_sum_le p.fans cs)
 
 further_le : (f : Fan) (cs : List Choice) (t : Sharing) (o : Option Sharing) → further_from f cs t o ≤ greatest_price f
@@ -99,7 +99,7 @@ completion (row ∷ rows) all =
     let rest = completion rows (All-tail HasChoice row rows all) in
     (first.0 ∷ rest.0, (first.1, rest.1), ap suc rest.2)
 
-pub bound_small : (p : Problem) → IsProblem p → (prefix : List Choice) → Fits p.own prefix → bound_of p prefix < 2 ^ 63
+pub bound_small : (p : Costs) → IsProblem p → (prefix : List Choice) → Fits p.own prefix → bound_of p prefix < 2 ^ 63
 bound_small p problem prefix fits =
     let rest = completion (drop (length prefix) p.own) (All-drop HasChoice (length prefix) p.own problem.choices) in
     let whole : length (prefix ++ rest.0) ≡ length p.own = omega (arith, length-append prefix rest.0, rest.2, length-drop (length prefix) p.own, Fits-within p.own prefix fits) in

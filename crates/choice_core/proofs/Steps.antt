@@ -12,7 +12,7 @@ use Rattle.choice_core.specs.declared.sharings.Choice.{Choice}
 use Rattle.choice_core.specs.declared.sharings.Sharing.{Sharing}
 use Rattle.choice_core.specs.declared.sharings.Sharing.TheVariants.{Arithmetic, Boolean, Yao}
 use Rattle.choice_core.specs.declared.problems.Fan.{Fan}
-use Rattle.choice_core.specs.declared.problems.Problem.{Problem}
+use Rattle.choice_core.specs.declared.problems.Costs.{Costs}
 use Rattle.choice_core.specs.Choices.{sharing_of, same_sharing}
 use Rattle.choice_core.specs.Problems.{Row, own_of, price_of, own_sum, sharing_at, is_in, reaches, charge, fan_cost_from, fan_cost, Fits, HasChoice, Ascends, IsFan, next_from, is_at}
 use Rattle.choice_core.specs.Bound.{least, further_from, further, due, least_at, least_past, least_price, bound_of}
@@ -382,14 +382,14 @@ terms_add rows fans prefix cs =
     ∙ ap (λ (n : ℕ). sum_by (λ f. fan_cost f prefix) fans + n) (sym (dues_swap fans prefix (length prefix) cs)))
 
 -- the bound is the least over all ways to choose on of own costs and terms
-pub bound_le_terms : (p : Problem) (prefix cs : List Choice) → Fits (drop (length prefix) p.own) cs → length cs ≡ length (drop (length prefix) p.own) → bound_of p prefix ≤ own_sum p.own (prefix ++ cs) + sum_by (λ f. term p.own f prefix cs) p.fans
+pub bound_le_terms : (p : Costs) (prefix cs : List Choice) → Fits (drop (length prefix) p.own) cs → length cs ≡ length (drop (length prefix) p.own) → bound_of p prefix ≤ own_sum p.own (prefix ++ cs) + sum_by (λ f. term p.own f prefix cs) p.fans
 bound_le_terms p prefix cs fits whole =
     let past = least_past_le p.fans prefix (length prefix) (drop (length prefix) p.own) cs fits whole in
     let own = own_sum-append p.own prefix cs in
     let terms = terms_add p.own p.fans prefix cs in
     omega (arith, past, own, terms)
 
-pub bound_is_terms : (p : Problem) (prefix : List Choice) → All HasChoice p.own → (cs : List Choice) × Fits (drop (length prefix) p.own) cs × (length cs ≡ length (drop (length prefix) p.own)) × (bound_of p prefix ≡ own_sum p.own (prefix ++ cs) + sum_by (λ f. term p.own f prefix cs) p.fans)
+pub bound_is_terms : (p : Costs) (prefix : List Choice) → All HasChoice p.own → (cs : List Choice) × Fits (drop (length prefix) p.own) cs × (length cs ≡ length (drop (length prefix) p.own)) × (bound_of p prefix ≡ own_sum p.own (prefix ++ cs) + sum_by (λ f. term p.own f prefix cs) p.fans)
 bound_is_terms p prefix choices =
     let past = least_past_is p.fans prefix (length prefix) (drop (length prefix) p.own) (All-drop HasChoice (length prefix) p.own choices) in
     let own = own_sum-append p.own prefix past.0 in

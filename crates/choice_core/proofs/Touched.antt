@@ -5,7 +5,7 @@ use Rattle.std.proofs.lemmas.Bool.{cases_eq}
 use Rattle.std.proofs.lemmas.Bool.Decides.{nat_tests}
 use Rattle.std.proofs.lemmas.List.{take_more, take_all, get_or_default}
 use Rattle.choice_core.specs.declared.problems.Fan.{Fan}
-use Rattle.choice_core.specs.declared.problems.Problem.{Problem}
+use Rattle.choice_core.specs.declared.problems.Costs.{Costs}
 use Rattle.choice_core.specs.Problems.{Ascends, IsFan, IsIndexed, AreTouching, touches}
 use Rattle.choice_core.proofs.Growth.{touching_more}
 use Rattle.choice_core.proofs.Walks.{or_true}
@@ -101,8 +101,8 @@ lists_more fans k i item places new within is so_far added = by_test (touches it
     by_test false fails = ap (map (λ j. slice_get fans j)) (added ∙ ap (λ (b : Bool). places ++ cond b (i ∷ []) []) fails ∙ append-nil places) ∙ (touching_more fans k i item places within is so_far).1 fails
 
 -- the numbers that a problem keeps for a module
-pub numbers_at : (p : Problem) → IsIndexed p → (m : ℕ) (lists : List (List ℕ)) (item numbers : List ℕ) → m < length p.own → lists ≡ p.touching → item ≡ get_or lists m item → numbers ≡ item → AreTouching p.fans m numbers
-numbers_at p indexed m lists item numbers within all is same =
+pub numbers_at : (p : Costs) (touching following : List (List ℕ)) → IsIndexed p touching following → (m : ℕ) (lists : List (List ℕ)) (item numbers : List ℕ) → m < length p.own → lists ≡ touching → item ≡ get_or lists m item → numbers ≡ item → AreTouching p.fans m numbers
+numbers_at p touching following indexed m lists item numbers within all is same =
     let inside : m < length lists = omega (arith, within, indexed.size, ap length all) in
-    let read : numbers ≡ get_or p.touching m [] = same ∙ is ∙ get_or_default lists m item [] inside ∙ ap (λ (ls : List (List ℕ)). get_or ls m []) all in
+    let read : numbers ≡ get_or touching m [] = same ∙ is ∙ get_or_default lists m item [] inside ∙ ap (λ (ls : List (List ℕ)). get_or ls m []) all in
     subst (AreTouching p.fans m) (sym read) (indexed.numbers m within)

@@ -5,7 +5,7 @@ use Rattle.choice_core.specs.declared.sharings.Choice.{Choice}
 use Rattle.choice_core.specs.declared.sharings.Choice.TheVariants.{A, Y, C, S}
 use Rattle.choice_core.specs.declared.sharings.Sharing.{Sharing}
 use Rattle.choice_core.specs.declared.problems.Fan.{Fan}
-use Rattle.choice_core.specs.declared.problems.Problem.{Problem}
+use Rattle.choice_core.specs.declared.problems.Costs.{Costs}
 use Rattle.choice_core.specs.Choices.{sharing_of, same_sharing}
 use Rattle.choice_core.specs.Problems.{Row, own_of, price_of, sharing_at, reaches, cost_of, next_from, is_at}
 
@@ -49,7 +49,7 @@ least_price rows f =
 
 -- the bound of a prefix: the cost so far, the least for each module past the prefix, and the least
 -- price of each fan whose producer is past it
-abbrev pub bound_of : Problem → List Choice → ℕ
+abbrev pub bound_of : Costs → List Choice → ℕ
 bound_of p prefix =
     cost_of p prefix + least_past p.fans prefix (length prefix) (drop (length prefix) p.own)
     + sum_by (λ f. cond (nat_lt f.from (length prefix)) 0 (least_price p.own f)) p.fans

@@ -3,3 +3,4 @@ pub mod Problems
 pub mod Bound
 pub mod Least
 pub mod Growing
+pub mod Ahead

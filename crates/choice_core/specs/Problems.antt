@@ -6,7 +6,7 @@ use Rattle.choice_core.specs.declared.sharings.Choice.TheVariants.{A, Y, C, S}
 use Rattle.choice_core.specs.declared.sharings.Sharing.{Sharing}
 use Rattle.choice_core.specs.declared.sharings.Sharing.TheVariants.{Arithmetic, Boolean, Yao}
 use Rattle.choice_core.specs.declared.problems.Fan.{Fan}
-use Rattle.choice_core.specs.declared.problems.Problem.{Problem}
+use Rattle.choice_core.specs.declared.problems.Costs.{Costs}
 use Rattle.choice_core.specs.Choices.{place, sharing_of, rank, same_sharing}
 
 -- a module's own costs, one for each choice that it allows
@@ -52,7 +52,7 @@ abbrev pub fan_cost : Fan → List Choice → ℕ
 fan_cost f cs = fan_cost_from f cs (sharing_at cs f.from)
 
 -- the cost of a list of choices
-abbrev pub cost_of : Problem → List Choice → ℕ
+abbrev pub cost_of : Costs → List Choice → ℕ
 cost_of p cs = own_sum p.own cs + sum_by (λ f. fan_cost f cs) p.fans
 
 -- one allowed choice for each of the first modules
@@ -62,7 +62,7 @@ Fits [] (c ∷ cs) = ⊥
 Fits (row ∷ rows) (c ∷ cs) = IsSome (own_of row c) × Fits rows cs
 
 -- one allowed choice for each module
-pub record IsAssignment (p : Problem) (cs : List Choice) : Type 0 where
+pub record IsAssignment (p : Costs) (cs : List Choice) : Type 0 where
   pub fits : Fits p.own cs
   pub whole : length cs ≡ length p.own
 
@@ -118,15 +118,14 @@ pub record AreFollowing (fans : List Fan) (m : ℕ) (numbers : List ℕ) : Type 
   pub are : (n : ℕ) → list_any (λ i. n == i) numbers ≡ lead_to (filter (λ f. touches f m) fans) (m + 1) n
 
 -- for each module the numbers of the fans that touch it, in order, and the modules that follow
-pub record IsIndexed (p : Problem) : Type 0 where
-  pub size : length p.touching ≡ length p.own
-  pub numbers : (m : ℕ) → m < length p.own → AreTouching p.fans m (slice_index_or p.touching m [])
-  pub long : length p.following ≡ length p.own
-  pub following : (m : ℕ) → m < length p.own → AreFollowing p.fans m (slice_index_or p.following m [])
+pub record IsIndexed (p : Costs) (touching following : List (List ℕ)) : Type 0 where
+  pub size : length touching ≡ length p.own
+  pub numbers : (m : ℕ) → m < length p.own → AreTouching p.fans m (slice_index_or touching m [])
+  pub long : length following ≡ length p.own
+  pub next : (m : ℕ) → m < length p.own → AreFollowing p.fans m (slice_index_or following m [])
 
 -- what a problem has to meet; every cost and every bound is then below 2 ^ 63
-pub record IsProblem (p : Problem) : Type 0 where
+pub record IsProblem (p : Costs) : Type 0 where
   pub choices : All HasChoice p.own
   pub fans : All (IsFan (length p.own)) p.fans
-  pub touching : IsIndexed p
   pub small : sum_by greatest_own p.own + sum_by (λ f. 2 * greatest_price f) p.fans < 2 ^ 63

@@ -48,7 +48,7 @@ pub fn cost(problem: &Problem, choices: &[Choice]) -> u64
     ensures cost { result ≡ cost_of problem.now choices.now }
     ensures small { result < 2 ^ 63 }
 {
-    own_sum(problem.own.as_slice(), choices) + fans_sum(problem.fans.as_slice(), choices)
+    own_sum(problem.own(), choices) + fans_sum(problem.fans(), choices)
 }
 
 /// The lesser of two numbers, where there are two.
@@ -70,21 +70,35 @@ fn least(a: Option<u64>, y: Option<u64>, c: Option<u64>, s: Option<u64>) -> Opti
     lesser(lesser(lesser(a, y), c), s)
 }
 
-/// What a sharing at the module of this number adds to the fans whose first consumer past the
+/// The sums of two lists of what each sharing adds.
+fn plus(one: &[u64; 3], other: &[u64; 3]) -> [u64; 3]
+    requires { (t : Sharing) → entry_of one.now t + entry_of other.now t < 2 ^ 64 }
+    ensures { (t : Sharing) → entry_of result t ≡ entry_of one.now t + entry_of other.now t }
+{
+    let [arithmetic, boolean, yao] = *one;
+    let [more_arithmetic, more_boolean, more_yao] = *other;
+    [
+        arithmetic + more_arithmetic,
+        boolean + more_boolean,
+        yao + more_yao,
+    ]
+}
+
+/// What each sharing at the module of this number adds, by rank, to the fans whose first consumer past the
 /// prefix it is. The time is linear in the consumers of the fans that touch the module.
-pub fn due(problem: &Problem, prefix: &[Choice], number: usize, sharing: Sharing) -> u64
+pub fn dues(problem: &Problem, prefix: &[Choice], number: usize) -> [u64; 3]
     requires problem { IsProblem problem.now }
     requires within { number < length problem.now.own }
-    ensures { result ≡ due problem.now.fans prefix.now number sharing }
+    ensures { (t : Sharing) → entry_of result t ≡ due problem.now.fans prefix.now number t }
 {
-    let mut total = 0;
+    let mut dues = [0; 3];
     for place in 0..problem.touching_count(number) {
         let fan = problem.touching_fan(number, place);
         if fan.next_from(prefix.len()) == Some(number) {
-            total += fan.further(prefix, sharing);
+            dues = plus(&dues, &fan.further(prefix));
         }
     }
-    total
+    dues
 }
 
 /// The own cost of a choice with what its sharing adds, if the choice is allowed.
@@ -111,18 +125,13 @@ pub fn least_by(row: &[Option<u64>; 4], entry: &[u64; 3]) -> u64
     .unwrap_or(0)
 }
 
-/// The least that the module of this number adds to the cost, in the time of `due`.
+/// The least that the module of this number adds to the cost, in the time of `dues`.
 pub fn least_at(problem: &Problem, prefix: &[Choice], number: usize) -> u64
     requires problem { IsProblem problem.now }
     requires within { number < length problem.now.own }
     ensures { result ≡ least_at problem.now.fans prefix.now number (slice_index_or problem.now.own number []) }
 {
-    let entry = [
-        due(problem, prefix, number, Sharing::Arithmetic),
-        due(problem, prefix, number, Sharing::Boolean),
-        due(problem, prefix, number, Sharing::Yao),
-    ];
-    least_by(&problem.own.as_slice()[number], &entry)
+    least_by(&problem.own()[number], &dues(problem, prefix, number))
 }
 
 /// The least that the modules past the prefix add to the cost, each by itself.
@@ -132,7 +141,7 @@ fn least_past(problem: &Problem, prefix: &[Choice]) -> u64
     ensures { result ≡ least_past problem.now.fans prefix.now (length prefix.now) (drop (length prefix.now) problem.now.own) }
 {
     let mut total = 0;
-    for number in prefix.len()..problem.own.as_slice().len() {
+    for number in prefix.len()..problem.own().len() {
         total += least_at(problem, prefix, number);
     }
     total
@@ -188,9 +197,9 @@ fn unplaced_sum(problem: &Problem, prefix: &[Choice]) -> u64
     ensures { result ≡ sum_by (λ f. cond (nat_lt f.from (length prefix.now)) 0 (least_price problem.now.own f)) problem.now.fans }
 {
     let mut total = 0;
-    for fan in problem.fans.as_slice() {
+    for fan in problem.fans() {
         if fan.from as usize >= prefix.len() {
-            total += least_price(problem.own.as_slice(), fan);
+            total += least_price(problem.own(), fan);
         }
     }
     total
@@ -206,8 +215,8 @@ pub fn bound(problem: &Problem, prefix: &[Choice]) -> u64
     ensures bound { result ≡ bound_of problem.now prefix.now }
     ensures small { result < 2 ^ 63 }
 {
-    let own = own_sum(problem.own.as_slice(), prefix);
-    let fans = fans_sum(problem.fans.as_slice(), prefix);
+    let own = own_sum(problem.own(), prefix);
+    let fans = fans_sum(problem.fans(), prefix);
     own + fans + least_past(problem, prefix) + unplaced_sum(problem, prefix)
 }
 

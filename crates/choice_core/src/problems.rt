@@ -1,14 +1,16 @@
 //! Modules with their own costs, and fans with their prices.
 
-ghost use Rattle.std.specs.Prelude.{◌≡◌, ℕ, ◌*◌, ◌^◌, ◌<◌, ◌≤◌, ◌++◌, [], ◌∷◌, cond, IsTrue, MatchOption, IfOk, OnOk, All, length, filter, replicate, ◌==◌, ◌+◌, slice_set, slice_index, slice_index_or};
+ghost use Rattle.std.specs.Prelude.{◌≡◌, ℕ, ◌*◌, ◌^◌, ◌<◌, ◌≤◌, ◌++◌, ◌||◌, [], ◌∷◌, cond, IsTrue, MatchOption, IfOk, OnOk, All, length, filter, replicate, ◌==◌, ◌+◌, slice_set, slice_index, slice_index_or};
 ghost use Rattle.choice_core.specs.Bound.{further};
-ghost use Rattle.choice_core.specs.Choices.{rank};
-ghost use Rattle.choice_core.specs.Problems.{Row, own_of, price_of, sharing_at, is_in, reaches, charge, fan_cost, greatest_price, touches, IsFan, AreTouching, AreFollowing, IsIndexed, next_from};
+ghost use Rattle.choice_core.specs.Choices.{rank, same_sharing};
+ghost use Rattle.choice_core.specs.Growing.{entry_of, mark_of};
+ghost use Rattle.choice_core.specs.declared.sharings.Sharing.{Sharing};
+ghost use Rattle.choice_core.specs.Problems.{Row, own_of, price_of, sharing_at, is_in, reaches, charge, fan_cost, greatest_price, touches, IsFan, AreTouching, AreFollowing, next_from};
 
-use crate::lists::Sequence;
 use crate::sharings::{Choice, Sharing};
-use hy_bits::Memory;
+use hy_bits::{Memory, Sequence};
 use std::alloc::Global;
+use std::marker::Model;
 
 /// The numbers of a cost table: for products by width (8, 16, 32, 64), for conversions by width
 /// (1, 8, 16, 32, 64), for an AND at B, a level of ANDs at B, and an AND at Y.
@@ -35,14 +37,31 @@ pub struct Fan {
     pub price: [[u64; 3]; 3],
 }
 
-/// For each module its own cost by choice, `None` where the choice isn't allowed; the fans; for each
-/// module the numbers of the fans that touch it, and those of the modules that these fans go on to.
+/// For each module its own cost by choice, `None` where the choice isn't allowed, and the fans.
 #[derive(Drop)]
-pub struct Problem {
+pub struct Costs {
     pub own: Sequence<[Option<u64>; 4]>,
     pub fans: Sequence<Fan>,
-    pub touching: Sequence<Sequence<u32>>,
-    pub following: Sequence<Sequence<u32>>,
+}
+
+/// What choices of circuits cost. Contracts see the costs alone; beside them stand, for each module, the numbers of the
+/// fans that touch it, and those of the modules that these fans go on to.
+#[derive(Drop)]
+pub struct Problem {
+    costs: Costs,
+    touching: Sequence<Sequence<u32>>,
+    following: Sequence<Sequence<u32>>,
+}
+
+impl Model for Problem {
+    ghost use Rattle.choice_core.specs.declared.problems.Costs.{Costs};
+    ghost use Rattle.choice_core.specs.Problems.{IsIndexed};
+
+    ghost Value = { Costs };
+
+    ghost view = { λ p. p.costs };
+
+    ghost invariant = { λ p. IsIndexed p.costs p.touching p.following };
 }
 
 /// Puts a fan's number behind those of a module.
@@ -171,8 +190,12 @@ fn following_lists(
 }
 
 impl Problem {
-    /// The problem of these modules and fans. The time is that of one pass over a fan's consumers
-    /// for each module that the fan touches.
+    /// The problem of the modules with these own costs and of these fans. The time is that of one pass over a fan's
+    /// consumers for each module that the fan touches.
+    ///
+    /// # Errors
+    ///
+    /// Memory ran out.
     pub fn of(
         alloc: Global,
         own: Sequence<[Option<u64>; 4]>,
@@ -180,24 +203,42 @@ impl Problem {
     ) -> Result<Problem, Memory>
         requires fans { All (IsFan (length own)) fans }
         requires few { length fans < 2 ^ 32 }
-        ensures own { IfOk result (λ p. p.own ≡ own) }
-        ensures fans { IfOk result (λ p. p.fans ≡ fans) }
-        ensures touching { IfOk result (λ p. IsIndexed p) }
+        ensures { IfOk result (λ p. p ≡ record { own = own; fans = fans }) }
     {
         let touching = touching_lists(alloc, own.as_slice().len(), fans.as_slice())?;
         let following = following_lists(alloc, fans.as_slice(), touching.as_slice())?;
         Ok(Problem {
-            own,
-            fans,
+            costs: Costs { own, fans },
             touching: Sequence::new(touching),
             following: Sequence::new(following),
         })
     }
 
+    /// The own costs of the modules, by choice.
+    pub fn own(&self) -> &[[Option<u64>; 4]]
+        ensures { result.now ≡ self.now.own }
+    {
+        self.costs.own.as_slice()
+    }
+
+    /// The fans.
+    pub fn fans(&self) -> &[Fan]
+        ensures { result.now ≡ self.now.fans }
+    {
+        self.costs.fans.as_slice()
+    }
+
+    /// The numbers of the modules that the fans which touch the module of this number go on to, each once.
+    pub fn following(&self, number: usize) -> &[u32]
+        requires { number < length self.now.own }
+        ensures { AreFollowing self.now.fans number result.now }
+    {
+        self.following.as_slice()[number].as_slice()
+    }
+
     /// How many fans touch the module of this number.
     pub fn touching_count(&self, number: usize) -> usize
-        requires indexed { IsIndexed self.now }
-        requires within { number < length self.now.own }
+        requires { number < length self.now.own }
         ensures { result ≡ length (filter (λ f. touches f number) self.now.fans) }
     {
         self.touching.as_slice()[number].as_slice().len()
@@ -205,13 +246,12 @@ impl Problem {
 
     /// The fan of this place among those that touch the module of this number.
     pub fn touching_fan(&self, number: usize, place: usize) -> &Fan
-        requires indexed { IsIndexed self.now }
         requires number { number < length self.now.own }
         requires place { place < length (filter (λ f. touches f number) self.now.fans) }
         ensures { result.now ≡ slice_index_or (filter (λ f. touches f number) self.now.fans) place result.now }
     {
         let numbers = self.touching.as_slice()[number].as_slice();
-        &self.fans.as_slice()[numbers[place] as usize]
+        &self.costs.fans.as_slice()[numbers[place] as usize]
     }
 }
 
@@ -307,15 +347,54 @@ impl Fan {
         None
     }
 
-    #[tactic(auto, using(crate::proofs::Walks::same_is), unfolding(crate::specs::Bound::further_from))]
-    /// What one more consumer in this sharing adds to the fan's cost.
-    pub fn further(&self, prefix: &[Choice], to: Sharing) -> u64
-        ensures { result ≡ further self.now prefix.now to }
+    /// In which sharings, by rank, some consumer has a choice. The time is linear in the consumers.
+    fn reached(&self, choices: &[Choice]) -> [bool; 3]
+        ensures { (t : Sharing) → mark_of result t ≡ reaches self.now choices.now t }
     {
-        match sharing_at(prefix, self.from) {
-            Some(from) if to == from || self.reaches(prefix, to) => 0,
-            Some(from) => self.price(from, to),
-            None => 0,
+        let mut reached = [false; 3];
+        for consumer in self.to.as_slice() {
+            reached = marked(&reached, sharing_at(choices, *consumer));
         }
+        reached
+    }
+
+    /// The price from one sharing to another: nothing where the other one is reached, or is the first one.
+    #[tactic(auto, using(crate::proofs::Walks::same_is))]
+    fn price_unless(&self, reached: bool, from: Sharing, to: Sharing) -> u64
+        ensures { result ≡ cond (reached || same_sharing to from) 0 (price_of self.now from to) }
+    {
+        if reached || to == from {
+            0
+        } else {
+            self.price(from, to)
+        }
+    }
+
+    /// What one more consumer adds to the fan's cost, by the rank of its sharing. The time is linear in the consumers.
+    pub fn further(&self, prefix: &[Choice]) -> [u64; 3]
+        ensures { (t : Sharing) → entry_of result t ≡ further self.now prefix.now t }
+    {
+        let Some(from) = sharing_at(prefix, self.from) else {
+            return [0; 3];
+        };
+        let [arithmetic, boolean, yao] = self.reached(prefix);
+        [
+            self.price_unless(arithmetic, from, Sharing::Arithmetic),
+            self.price_unless(boolean, from, Sharing::Boolean),
+            self.price_unless(yao, from, Sharing::Yao),
+        ]
+    }
+}
+
+/// The marks with that of a module's sharing, if it has a choice.
+fn marked(marks: &[bool; 3], sharing: Option<Sharing>) -> [bool; 3]
+    ensures { (t : Sharing) → mark_of result t ≡ (mark_of marks.now t || is_in sharing t) }
+{
+    let [arithmetic, boolean, yao] = *marks;
+    match sharing {
+        Some(Sharing::Arithmetic) => [true, boolean, yao],
+        Some(Sharing::Boolean) => [arithmetic, true, yao],
+        Some(Sharing::Yao) => [arithmetic, boolean, true],
+        None => *marks,
     }
 }

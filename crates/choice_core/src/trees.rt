@@ -1,6 +1,6 @@
 //! The tree that shows a least list of choices.
 
-use crate::lists::Sequence;
+use hy_bits::Sequence;
 
 /// A node: a branch has one child for each allowed choice of the next module, in order; a leaf
 /// has the bound of its prefix.

@@ -4,7 +4,7 @@ use Rattle.std.proofs.lemmas.Bool.{cases_lt, cases_eq}
 use Rattle.std.proofs.lemmas.List.{append-nil, length_push, nil_from_length}
 use Rattle.choice_core.specs.declared.sharings.Choice.{Choice}
 use Rattle.choice_core.specs.declared.sharings.Choice.TheVariants.{A}
-use Rattle.choice_core.specs.declared.problems.Problem.{Problem}
+use Rattle.choice_core.specs.declared.problems.Costs.{Costs}
 use Rattle.choice_core.specs.Choices.{place}
 use Rattle.choice_core.specs.Problems.{cost_of, Fits, IsAssignment, IsProblem}
 use Rattle.choice_core.specs.Least.{IsLater, IsLeast}
@@ -43,7 +43,7 @@ one_is_later (c ∷ cs) (d ∷ ds) same = elim (cases_lt (place d) (place c)) [
     by_rest is (inr (inl later)) = inr (inl (inr (sym is, later)))
     by_rest is (inr (inr rest)) = inr (inr (cc))
 
-before_one : (p : Problem) (cs ds : List Choice) → length cs ≡ length ds → Before p cs ds ⊎ Before p ds cs
+before_one : (p : Costs) (cs ds : List Choice) → length cs ≡ length ds → Before p cs ds ⊎ Before p ds cs
 before_one p cs ds same = elim (cases_lt (cost_of p cs) (cost_of p ds)) [
   | inl less ↦ inl (inl less)
   | inr least ↦ elim (cases_eq (cost_of p cs) (cost_of p ds)) [
@@ -57,7 +57,7 @@ before_one p cs ds same = elim (cases_lt (cost_of p cs) (cost_of p ds)) [
     by_order even (inr (inl later)) = inl (inr (even, inl later))
     by_order even (inr (inr is)) = inl (inr (even, inr (sym is)))
 
-before_all : (p : Problem) (cs ds es : List Choice) → Before p cs ds → Before p ds es → Before p cs es
+before_all : (p : Costs) (cs ds es : List Choice) → Before p cs ds → Before p ds es → Before p cs es
 before_all p cs ds es (inl less) (inl more) = inl (omega (arith, less, more))
 before_all p cs ds es (inl less) (inr (even, rest)) = inl (omega (arith, less, even))
 before_all p cs ds es (inr (even, rest)) (inl more) = inl (omega (arith, even, more))
@@ -66,12 +66,12 @@ before_all p cs ds es (inr (even, inl one)) (inr (like, inr same)) = subst (λ (
 before_all p cs ds es (inr (even, inl one)) (inr (like, inl two)) = inr (even ∙ like, inl (later_trans cs ds es two one))
 
 -- a list before all that extend the prefix
-record LeastBelow (p : Problem) (q cs : List Choice) : Type 0 where
+record LeastBelow (p : Costs) (q cs : List Choice) : Type 0 where
   assigned : IsAssignment p cs
   first : (ds rest : List Choice) → IsAssignment p ds → ds ≡ q ++ rest → Before p cs ds
 
 -- of lists that are least below several prefixes, one is before all
-among : (p : Problem) (q : List Choice) (choices : List Choice) → 0 < length choices → ((n : ℕ) → n < length choices → (cs : List Choice) × LeastBelow p (q ++ get_or choices n A ∷ []) cs) → (cs : List Choice) × IsAssignment p cs × ((n : ℕ) → n < length choices → (ds rest : List Choice) → IsAssignment p ds → ds ≡ (q ++ get_or choices n A ∷ []) ++ rest → Before p cs ds)
+among : (p : Costs) (q : List Choice) (choices : List Choice) → 0 < length choices → ((n : ℕ) → n < length choices → (cs : List Choice) × LeastBelow p (q ++ get_or choices n A ∷ []) cs) → (cs : List Choice) × IsAssignment p cs × ((n : ℕ) → n < length choices → (ds rest : List Choice) → IsAssignment p ds → ds ≡ (q ++ get_or choices n A ∷ []) ++ rest → Before p cs ds)
 among p q [] some each = absurd (omega (arith, some))
 among p q (c ∷ []) some each = (let one = each 0 (omega arith) in (one.0, one.1.assigned, only one))
   where
@@ -95,7 +95,7 @@ among p q (c ∷ d ∷ choices) some each =
         seconds zero within ds rest other is = before_all p others.0 one.0 ds first (one.1.first ds rest other is)
         seconds (suc n) within ds rest other is = others.2 n (omega (arith, within)) ds rest other is
 
-least_below : (p : Problem) → IsProblem p → (n : ℕ) (q : List Choice) → Fits p.own q → length q + n ≡ length p.own → (cs : List Choice) × LeastBelow p q cs
+least_below : (p : Costs) → IsProblem p → (n : ℕ) (q : List Choice) → Fits p.own q → length q + n ≡ length p.own → (cs : List Choice) × LeastBelow p q cs
 least_below p problem zero q fits whole = (q, record { assigned = record { fits = fits; whole = omega (arith, whole) }; first = same })
   where
     same : (ds rest : List Choice) → IsAssignment p ds → ds ≡ q ++ rest → Before p q ds
@@ -115,7 +115,7 @@ least_below p problem (suc n) q fits whole =
         let there = choice_place p q d (allowed_next p.own q d rest (subst (λ (xs : List Choice). Fits p.own xs) is other.fits)) in
         found.2 there.0 there.1 ds rest other (is ∙ sym (append_assoc q (d ∷ []) rest) ∙ ap (λ (c : Choice). (q ++ c ∷ []) ++ rest) (sym there.2))
 
-pub some_least : (p : Problem) → IsProblem p → (cs : List Choice) × IsLeast p cs
+pub some_least : (p : Costs) → IsProblem p → (cs : List Choice) × IsLeast p cs
 unfolding Fits
 some_least p problem =
     let found = least_below p problem (length p.own) [] tt (omega arith) in

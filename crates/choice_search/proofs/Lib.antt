@@ -8,4 +8,4 @@ pub mod Splits
 pub mod Walks
 pub mod Opens
 pub mod Exists
-mod Samples
+mod Few

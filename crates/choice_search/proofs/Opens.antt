@@ -6,7 +6,7 @@ use Rattle.std.proofs.lemmas.List.{append-nil}
 use Rattle.std.proofs.lemmas.List.Elements.{All-nil, All-cons, All-weaker, All-contains}
 use Rattle.std.proofs.lemmas.List.Kept.{AllPairs-cons}
 use Rattle.choice_core.specs.declared.sharings.Choice.{Choice}
-use Rattle.choice_core.specs.declared.problems.Problem.{Problem}
+use Rattle.choice_core.specs.declared.problems.Costs.{Costs}
 use Rattle.choice_core.specs.Problems.{cost_of, Fits, IsAssignment, IsProblem}
 use Rattle.choice_core.specs.Bound.{bound_of}
 use Rattle.choice_core.specs.Least.{IsLater, IsLeast, ClosesAt, children}
@@ -22,7 +22,7 @@ use Rattle.choice_search.proofs.Prefixes.{choices_few, same_number, reached, who
 use Rattle.choice_search.proofs.Splits.{node_old, node_new, prefix_old, by_place, arena_split, stand_split, bounds_split, leasts_split, now_split, size_split}
 
 -- a longer prefix that isn't complete still closes
-closes_longer : (p : Problem) → IsProblem p → (cs prefix more : List Choice) → length cs ≡ length p.own → Fits p.own (prefix ++ more) → length (prefix ++ more) < length p.own → ClosesAt p cs prefix → ClosesAt p cs (prefix ++ more)
+closes_longer : (p : Costs) → IsProblem p → (cs prefix more : List Choice) → length cs ≡ length p.own → Fits p.own (prefix ++ more) → length (prefix ++ more) < length p.own → ClosesAt p cs prefix → ClosesAt p cs (prefix ++ more)
 closes_longer p problem cs prefix more whole fits short (inl dear) = let rises = bound_rises p problem prefix more fits in inl (omega (arith, dear, rises))
 closes_longer p problem cs prefix more whole fits short (inr (inl (same, later))) =
     let rises = bound_rises p problem prefix more fits in
@@ -32,7 +32,7 @@ closes_longer p problem cs prefix more whole fits short (inr (inl (same, later))
     ]
 closes_longer p problem cs prefix more whole fits short (inr (inr same)) = absurd (let size = ap length same in let long = length-append prefix more in omega (arith, size, long, whole, short))
 
-module _ (p : Problem) (problem : IsProblem p) (prefixes : List (List Choice)) (nodes : List Node) (leasts : List ℕ) (search : IsSearch p prefixes nodes leasts) where
+module _ (p : Costs) (problem : IsProblem p) (prefixes : List (List Choice)) (nodes : List Node) (leasts : List ℕ) (search : IsSearch p prefixes nodes leasts) where
   -- each complete list extends a prefix that waits
   pub waiting_below : (cs : List Choice) → IsAssignment p cs → (k : ℕ) × (k < length nodes) × ((node_at nodes k).count ≡ 0) × (more : List Choice) × (cs ≡ prefix_at prefixes k ++ more)
   waiting_below cs assigned =
@@ -97,7 +97,7 @@ module _ (p : Problem) (problem : IsProblem p) (prefixes : List (List Choice)) (
           subst (λ (es : List Choice). Before p (prefix_at prefixes i) es) (sym is)
           (closes_below p problem (prefix_at prefixes i) (prefix_at prefixes k) more assigned (subst (λ (es : List Choice). IsAssignment p es) is other) (first_closes i first whole k within waits))
 
-pub nothing_split : (p : Problem) (nodes : List Node) (leasts : List ℕ) → IsSearch p ([] ∷ []) nodes leasts → IsSearched p ([] ∷ []) [] nodes leasts
+pub nothing_split : (p : Costs) (nodes : List Node) (leasts : List ℕ) → IsSearch p ([] ∷ []) nodes leasts → IsSearched p ([] ∷ []) [] nodes leasts
 nothing_split p nodes leasts search = record {
   search = search;
   differ = λ i j d before within. absurd (omega arith);
@@ -117,7 +117,7 @@ nothing_split p nodes leasts search = record {
         let inside = split.within in
         omega (arith, after, inside, one, some)
 
-module _ (p : Problem) (problem : IsProblem p) (prefixes popped : List (List Choice)) (nodes : List Node) (leasts : List ℕ) (searched : IsSearched p prefixes popped nodes leasts) (i : ℕ) (first : IsFirst p prefixes nodes i) where
+module _ (p : Costs) (problem : IsProblem p) (prefixes popped : List (List Choice)) (nodes : List Node) (leasts : List ℕ) (searched : IsSearched p prefixes popped nodes leasts) (i : ℕ) (first : IsFirst p prefixes nodes i) where
   search : IsSearch p prefixes nodes leasts
   search = searched.search
 
@@ -225,7 +225,7 @@ module _ (p : Problem) (problem : IsProblem p) (prefixes popped : List (List Cho
             k within some
 
 -- the nodes and bounds once the first that waits was split, by the prefix as it stands on the path
-module _ (p : Problem) (problem : IsProblem p) (prefixes popped : List (List Choice)) (nodes : List Node) (leasts : List ℕ) (q : List Choice) (i : ℕ) (at : IsAt p prefixes popped nodes leasts q i) (short : length q < length p.own) (new : List Node) (bounds : List ℕ) (is_new : new ≡ split_at nodes i (choices_at p q)) (is_bounds : bounds ≡ with_bounds p leasts q (choices_at p q)) where
+module _ (p : Costs) (problem : IsProblem p) (prefixes popped : List (List Choice)) (nodes : List Node) (leasts : List ℕ) (q : List Choice) (i : ℕ) (at : IsAt p prefixes popped nodes leasts q i) (short : length q < length p.own) (new : List Node) (bounds : List ℕ) (is_new : new ≡ split_at nodes i (choices_at p q)) (is_bounds : bounds ≡ with_bounds p leasts q (choices_at p q)) where
   less : length (prefix_at prefixes i) < length p.own
   less = subst (λ (r : List Choice). length r < length p.own) at.is short
 
@@ -260,7 +260,7 @@ module _ (p : Problem) (problem : IsProblem p) (prefixes popped : List (List Cho
   )
 
 -- what is found is the first that waits
-pub found_at : (p : Problem) (prefixes popped : List (List Choice)) (nodes nodes' : List Node) (leasts leasts' : List ℕ) (path : List Choice) (depth number : ℕ) → IsSearched p prefixes popped nodes leasts → nodes' ≡ nodes → leasts' ≡ leasts → ((prefixes : List (List Choice)) → IsSearch p prefixes nodes' leasts' → IsFirst p prefixes nodes' number × (take depth path ≡ prefix_at prefixes number)) → IsAt p prefixes popped nodes leasts (take depth path) number
+pub found_at : (p : Costs) (prefixes popped : List (List Choice)) (nodes nodes' : List Node) (leasts leasts' : List ℕ) (path : List Choice) (depth number : ℕ) → IsSearched p prefixes popped nodes leasts → nodes' ≡ nodes → leasts' ≡ leasts → ((prefixes : List (List Choice)) → IsSearch p prefixes nodes' leasts' → IsFirst p prefixes nodes' number × (take depth path ≡ prefix_at prefixes number)) → IsAt p prefixes popped nodes leasts (take depth path) number
 found_at p prefixes popped nodes nodes' leasts leasts' path depth number searched same same' found =
     let first = found prefixes (rw (same, same') searched.search) in
     record {
@@ -270,7 +270,7 @@ found_at p prefixes popped nodes nodes' leasts leasts' path depth number searche
     }
 
 -- more prefixes were split than there may be
-pub many_open : (p : Problem) → IsProblem p → (prefixes popped : List (List Choice)) (nodes : List Node) (leasts : List ℕ) → IsSearched p prefixes popped nodes leasts → 2 ^ 18 < length popped → (cs : List Choice) × IsLeast p cs × HasManyOpen p cs
+pub many_open : (p : Costs) → IsProblem p → (prefixes popped : List (List Choice)) (nodes : List Node) (leasts : List ℕ) → IsSearched p prefixes popped nodes leasts → 2 ^ 18 < length popped → (cs : List Choice) × IsLeast p cs × HasManyOpen p cs
 many_open p problem prefixes popped nodes leasts searched many =
     let least = some_least p problem in
     (least.0, least.1, (popped, searched.differ, All-weaker (λ q. (cs : List Choice) → IsLeast p cs → IsOpen p cs q) (IsOpen p least.0) (λ q opens. opens least.0 least.1) popped searched.opens, many))

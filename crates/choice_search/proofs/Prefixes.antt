@@ -10,7 +10,7 @@ use Rattle.std.proofs.lemmas.List.Filters.{length-filter_both}
 use Rattle.std.proofs.lemmas.List.Kept.{AllPairs-cons, AllPairs-filter}
 use Rattle.choice_core.specs.declared.sharings.Choice.{Choice}
 use Rattle.choice_core.specs.declared.sharings.Choice.TheVariants.{A, Y, C, S}
-use Rattle.choice_core.specs.declared.problems.Problem.{Problem}
+use Rattle.choice_core.specs.declared.problems.Costs.{Costs}
 use Rattle.choice_core.specs.Choices.{place}
 use Rattle.choice_core.specs.Problems.{Row, own_of, Fits}
 use Rattle.choice_core.specs.Bound.{bound_of}
@@ -37,18 +37,18 @@ all_rise =
     (AllPairs-cons Before Y (C ∷ S ∷ []) (All-cons (Before Y) C (S ∷ []) (omega arith) (All-cons (Before Y) S [] (omega arith) (All-nil (Before Y))))
     (AllPairs-cons Before C (S ∷ []) (All-cons (Before C) S [] (omega arith) (All-nil (Before C))) (λ i j d before within. absurd (omega arith))))
 
-pub choices_rise : (p : Problem) (q : List Choice) → AllPairs Before (choices_at p q)
+pub choices_rise : (p : Costs) (q : List Choice) → AllPairs Before (choices_at p q)
 unfolding choices_at
 choices_rise p q = AllPairs-filter Before (λ c. is_some (own_of (get_or p.own (length q) []) c)) (A ∷ Y ∷ C ∷ S ∷ []) all_rise
 
-pub choices_few : (p : Problem) (q : List Choice) → length (choices_at p q) ≤ 4
+pub choices_few : (p : Costs) (q : List Choice) → length (choices_at p q) ≤ 4
 unfolding choices_at
 choices_few p q =
     let both = length-filter_both (λ c. is_some (own_of (get_or p.own (length q) []) c)) (λ c. not (is_some (own_of (get_or p.own (length q) []) c))) (λ c. refl) (A ∷ Y ∷ C ∷ S ∷ []) in
     omega (arith, both)
 
 -- an allowed choice has a place among them
-pub choice_place : (p : Problem) (q : List Choice) (d : Choice) → IsSome (own_of (get_or p.own (length q) []) d) → (n : ℕ) × (n < length (choices_at p q)) × (get_or (choices_at p q) n A ≡ d)
+pub choice_place : (p : Costs) (q : List Choice) (d : Choice) → IsSome (own_of (get_or p.own (length q) []) d) → (n : ℕ) × (n < length (choices_at p q)) × (get_or (choices_at p q) n A ≡ d)
 unfolding choices_at
 choice_place p q d allowed =
     let there = Contains-filter (λ c. is_some (own_of (get_or p.own (length q) []) c)) (A ∷ Y ∷ C ∷ S ∷ []) d (among_all d) (is_some_true (own_of (get_or p.own (length q) []) d) allowed) in
@@ -60,7 +60,7 @@ allowed_next rows q d rest fits =
     let head = fits_head (drop (length q) rows) d rest (Fits-right rows q (d ∷ rest) fits) in
     subst (λ (r : Row). IsSome (own_of r d)) (get_or-drop (length q) rows 0 [] ∙ ap (λ (i : ℕ). get_or rows i []) (omega arith)) head.0
 
-module _ (p : Problem) (prefixes : List (List Choice)) (nodes : List Node) (arena : IsArena nodes) (stand : StandFor p prefixes nodes) where
+module _ (p : Costs) (prefixes : List (List Choice)) (nodes : List Node) (arena : IsArena nodes) (stand : StandFor p prefixes nodes) where
   pub children_long : (i : ℕ) → i < length nodes → 0 < (node_at nodes i).count → (node_at nodes i).count ≡ length (choices_at p (prefix_at prefixes i))
   unfolding choices_at
   children_long i inside some =
@@ -177,16 +177,16 @@ module _ (p : Problem) (prefixes : List (List Choice)) (nodes : List Node) (aren
   ]
 
 -- the second prefix has a greater bound than b, or at least that bound and a later choice
-abbrev pub FollowsAt : Problem → ℕ → List Choice → List Choice → Type 0
+abbrev pub FollowsAt : Costs → ℕ → List Choice → List Choice → Type 0
 FollowsAt p b first second = (b < bound_of p second) ⊎ ((b ≤ bound_of p second) × IsLater second first)
 
 -- below the node a prefix of the least bound b waits, and each that waits elsewhere follows it
-pub record IsDown (p : Problem) (prefixes : List (List Choice)) (nodes : List Node) (leasts : List ℕ) (b i : ℕ) : Type 0 where
+pub record IsDown (p : Costs) (prefixes : List (List Choice)) (nodes : List Node) (leasts : List ℕ) (b i : ℕ) : Type 0 where
   pub within : i < length nodes
   pub least : get_or leasts i 0 ≡ b
   pub others : (k : ℕ) → k < length nodes → (node_at nodes k).count ≡ 0 → ((rest : List Choice) × (prefix_at prefixes k ≡ prefix_at prefixes i ++ rest)) ⊎ FollowsAt p b (prefix_at prefixes i) (prefix_at prefixes k)
 
-module _ (p : Problem) (prefixes : List (List Choice)) (nodes : List Node) (leasts : List ℕ) (search : IsSearch p prefixes nodes leasts) where
+module _ (p : Costs) (prefixes : List (List Choice)) (nodes : List Node) (leasts : List ℕ) (search : IsSearch p prefixes nodes leasts) where
   -- going up from a node to the part of its prefix of a given length: the least bounds never rise
   pub upward : (n r : ℕ) (q rest : List Choice) → length rest ≡ n → r < length nodes → prefix_at prefixes r ≡ q ++ rest → (a : ℕ) × (a < length nodes) × (prefix_at prefixes a ≡ q) × (get_or leasts a 0 ≤ get_or leasts r 0) × ((a ≡ r) ⊎ (0 < (node_at nodes a).count))
   upward zero r q rest long inside is = (r, inside, is ∙ ap (λ (cs : List Choice). q ++ cs) (nil_from_length rest long) ∙ append-nil q, omega arith, inl refl)

@@ -6,7 +6,7 @@ use Rattle.std.proofs.lemmas.List.{length-map, get_or_append_left, get_or-map, t
 use Rattle.std.proofs.lemmas.List.Elements.{filter_passes}
 use Rattle.choice_core.specs.declared.sharings.Choice.{Choice}
 use Rattle.choice_core.specs.declared.sharings.Choice.TheVariants.{A, Y, C, S}
-use Rattle.choice_core.specs.declared.problems.Problem.{Problem}
+use Rattle.choice_core.specs.declared.problems.Costs.{Costs}
 use Rattle.choice_core.specs.Problems.{own_of, Fits, IsProblem}
 use Rattle.choice_core.specs.Bound.{bound_of}
 use Rattle.choice_core.specs.Least.{children}
@@ -20,15 +20,15 @@ some_passes None is = absurd (cc)
 some_passes (Some x) is = refl
 
 -- each of these choices is allowed
-pub choice_allowed : (p : Problem) (q : List Choice) (n : ℕ) → n < length (choices_at p q) → IsSome (own_of (get_or p.own (length q) []) (get_or (choices_at p q) n A))
+pub choice_allowed : (p : Costs) (q : List Choice) (n : ℕ) → n < length (choices_at p q) → IsSome (own_of (get_or p.own (length q) []) (get_or (choices_at p q) n A))
 unfolding choices_at
 choice_allowed p q n within = some_passes (own_of (get_or p.own (length q) []) (get_or (choices_at p q) n A)) (filter_passes (λ c. is_some (own_of (get_or p.own (length q) []) c)) (A ∷ Y ∷ C ∷ S ∷ []) n A within)
 
-pub children_are : (p : Problem) (q : List Choice) → children p q ≡ map (λ c. q ++ c ∷ []) (choices_at p q)
+pub children_are : (p : Costs) (q : List Choice) → children p q ≡ map (λ c. q ++ c ∷ []) (choices_at p q)
 unfolding choices_at
 children_are p q = refl
 
-pub some_choice : (p : Problem) → IsProblem p → (q : List Choice) → length q < length p.own → 0 < length (choices_at p q)
+pub some_choice : (p : Costs) → IsProblem p → (q : List Choice) → length q < length p.own → 0 < length (choices_at p q)
 some_choice p problem q short =
     let first = problem.choices (length q) [] short in
     let there = choice_place p q first.0 first.1 in
@@ -38,7 +38,7 @@ some_choice p problem q short =
 abbrev child_of : ℕ → Choice → Node
 child_of i c = record { parent = i; choice = c; first = 0; count = 0 }
 
-module _ (p : Problem) (problem : IsProblem p) (prefixes : List (List Choice)) (nodes : List Node) (leasts : List ℕ) (search : IsSearch p prefixes nodes leasts) (i : ℕ) (inside : i < length nodes) (waits : (node_at nodes i).count ≡ 0) (short : length (prefix_at prefixes i) < length p.own) where
+module _ (p : Costs) (problem : IsProblem p) (prefixes : List (List Choice)) (nodes : List Node) (leasts : List ℕ) (search : IsSearch p prefixes nodes leasts) (i : ℕ) (inside : i < length nodes) (waits : (node_at nodes i).count ≡ 0) (short : length (prefix_at prefixes i) < length p.own) where
   abbrev q : List Choice
   q = prefix_at prefixes i
 

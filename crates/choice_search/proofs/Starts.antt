@@ -1,7 +1,7 @@
 -- The arena of the empty prefix alone.
 use Rattle.std.proofs.Common.{◌≡◌, ℕ, ◌<◌, zero, suc, List, [], ◌∷◌, refl, arith}
 use Rattle.choice_core.specs.declared.sharings.Choice.TheVariants.{A}
-use Rattle.choice_core.specs.declared.problems.Problem.{Problem}
+use Rattle.choice_core.specs.declared.problems.Costs.{Costs}
 use Rattle.choice_core.specs.Problems.{Fits}
 use Rattle.choice_core.specs.Bound.{bound_of}
 use Rattle.choice_search.specs.declared.arenas.Node.{Node}
@@ -14,7 +14,7 @@ no_children : (i : ℕ) → (node_at root i).count ≡ 0
 no_children zero = refl
 no_children (suc i) = refl
 
-pub starts : (p : Problem) → IsSearch p ([] ∷ []) root (bound_of p [] ∷ [])
+pub starts : (p : Costs) → IsSearch p ([] ∷ []) root (bound_of p [] ∷ [])
 unfolding Fits
 starts p = record {
   arena = record {

@@ -6,7 +6,7 @@ use Rattle.std.proofs.lemmas.List.Elements.{All-nil, All-cons, All-head, All-tai
 use Rattle.std.proofs.lemmas.List.FromFn.{length-range_with_len, get_or-range_with_len}
 use Rattle.std.proofs.lemmas.List.Kept.{AllPairs-cons}
 use Rattle.choice_core.specs.declared.sharings.Choice.{Choice}
-use Rattle.choice_core.specs.declared.problems.Problem.{Problem}
+use Rattle.choice_core.specs.declared.problems.Costs.{Costs}
 use Rattle.choice_core.specs.declared.trees.TreeNode.{TreeNode}
 use Rattle.choice_core.specs.declared.trees.TreeNode.TheVariants.{Branch, Leaf}
 use Rattle.choice_core.specs.Least.{ClosesAll, children}
@@ -166,7 +166,7 @@ kids_are node k d within =
 
 -- whatever tree of the prefixes on the stack comes behind the list, all together is the tree of the empty prefix
 abbrev pub Reads : List Node → List ℕ → List TreeNode → List ℕ → Type 0
-Reads nodes leasts list stack = (p : Problem) (prefixes : List (List Choice)) (cs : List Choice) → StandFor p prefixes nodes → HasBounds p prefixes nodes leasts → IsShown p cs prefixes nodes → (more : List TreeNode) → ClosesAll p cs (map (prefix_at prefixes) (reverse stack)) more × BranchesOpen p cs (map (prefix_at prefixes) (reverse stack)) more → ClosesAll p cs ([] ∷ []) (list ++ more) × BranchesOpen p cs ([] ∷ []) (list ++ more)
+Reads nodes leasts list stack = (p : Costs) (prefixes : List (List Choice)) (cs : List Choice) → StandFor p prefixes nodes → HasBounds p prefixes nodes leasts → IsShown p cs prefixes nodes → (more : List TreeNode) → ClosesAll p cs (map (prefix_at prefixes) (reverse stack)) more × BranchesOpen p cs (map (prefix_at prefixes) (reverse stack)) more → ClosesAll p cs ([] ∷ []) (list ++ more) × BranchesOpen p cs ([] ∷ []) (list ++ more)
 
 pub reads_start : (nodes : List Node) (leasts : List ℕ) → Reads nodes leasts [] (0 ∷ [])
 reads_start nodes leasts p prefixes cs stand bounds shown more both = subst (λ (q : List Choice). ClosesAll p cs (q ∷ []) more × BranchesOpen p cs (q ∷ []) more) stand.root both

@@ -1,8 +1,8 @@
 -- The arena of a search: prefixes by number, each with the least bound of those that wait below it.
-use Rattle.std.specs.Prelude.{◌≡◌, ℕ, ◌+◌, ◌<◌, ◌≤◌, ◌⊎◌, List, [], ◌∷◌, ◌++◌, length, take, drop, map, filter, is_some, slice_index, slice_index_or, slice_set}
+use Rattle.std.specs.Prelude.{◌≡◌, ℕ, ◌+◌, ◌<◌, ◌≤◌, ◌⊎◌, List, [], ◌∷◌, ◌++◌, Option, Some, None, length, take, drop, map, filter, is_some, slice_index, slice_index_or, slice_set}
 use Rattle.choice_core.specs.declared.sharings.Choice.{Choice}
 use Rattle.choice_core.specs.declared.sharings.Choice.TheVariants.{A, Y, C, S}
-use Rattle.choice_core.specs.declared.problems.Problem.{Problem}
+use Rattle.choice_core.specs.declared.problems.Costs.{Costs}
 use Rattle.choice_core.specs.Problems.{Row, own_of, Fits}
 use Rattle.choice_core.specs.Bound.{bound_of}
 use Rattle.choice_core.specs.Least.{IsLater, ClosesAt, children}
@@ -36,12 +36,12 @@ pub record IsArena (nodes : List Node) : Type 0 where
   pub split : (i : ℕ) → i < length nodes → 0 < (node_at nodes i).count → IsSplit nodes i
 
 -- the children of a node stand for the prefixes longer by one choice
-pub record HasChildren (p : Problem) (prefixes : List (List Choice)) (nodes : List Node) (i : ℕ) : Type 0 where
+pub record HasChildren (p : Costs) (prefixes : List (List Choice)) (nodes : List Node) (i : ℕ) : Type 0 where
   pub short : length (prefix_at prefixes i) < length p.own
   pub children : take (node_at nodes i).count (drop (node_at nodes i).first prefixes) ≡ children p (prefix_at prefixes i)
 
 -- the nodes stand for these prefixes
-pub record StandFor (p : Problem) (prefixes : List (List Choice)) (nodes : List Node) : Type 0 where
+pub record StandFor (p : Costs) (prefixes : List (List Choice)) (nodes : List Node) : Type 0 where
   pub size : length prefixes ≡ length nodes
   pub root : prefix_at prefixes 0 ≡ []
   pub fits : (i : ℕ) → i < length nodes → Fits p.own (prefix_at prefixes i)
@@ -54,7 +54,7 @@ pub record IsLeastBelow (node : Node) (leasts : List ℕ) (least : ℕ) : Type 0
   pub found : (k : ℕ) × IsChildOf node k × (slice_index leasts k ≡ least)
 
 -- a node that waits has the bound of its prefix
-abbrev pub HasBounds : Problem → List (List Choice) → List Node → List ℕ → Type 0
+abbrev pub HasBounds : Costs → List (List Choice) → List Node → List ℕ → Type 0
 HasBounds p prefixes nodes leasts = (i : ℕ) → i < length nodes → (node_at nodes i).count ≡ 0 → slice_index leasts i ≡ bound_of p (prefix_at prefixes i)
 
 -- a node that was split has the least number of its children
@@ -62,7 +62,7 @@ abbrev pub HasLeasts : List Node → List ℕ → Type 0
 HasLeasts nodes leasts = (i : ℕ) → i < length nodes → 0 < (node_at nodes i).count → IsLeastBelow (node_at nodes i) leasts (slice_index leasts i)
 
 -- the arena of a search
-pub record IsSearch (p : Problem) (prefixes : List (List Choice)) (nodes : List Node) (leasts : List ℕ) : Type 0 where
+pub record IsSearch (p : Costs) (prefixes : List (List Choice)) (nodes : List Node) (leasts : List ℕ) : Type 0 where
   pub arena : IsArena nodes
   pub stand : StandFor p prefixes nodes
   pub size : length leasts ≡ length nodes
@@ -73,8 +73,13 @@ pub record IsSearch (p : Problem) (prefixes : List (List Choice)) (nodes : List 
 abbrev pub allowed_of : Row → List Choice → List Choice
 allowed_of row cs = filter (λ c. is_some (own_of row c)) cs
 
+-- what there is of one
+abbrev pub listed : Option ℕ → List ℕ
+listed None = []
+listed (Some bound) = bound ∷ []
+
 -- the choices that the module behind a prefix allows, in order
-unfoldable pub choices_at : Problem → List Choice → List Choice
+unfoldable pub choices_at : Costs → List Choice → List Choice
 choices_at p prefix = allowed_of (slice_index_or p.own (length prefix) []) (A ∷ Y ∷ C ∷ S ∷ [])
 
 -- the nodes with those of these choices behind the node i
@@ -86,20 +91,20 @@ abbrev pub split_at : List Node → ℕ → List Choice → List Node
 split_at nodes i cs = slice_set (with_children nodes i cs) i (record (node_at nodes i) { first = length nodes; count = length cs })
 
 -- the bounds, and those of the prefixes longer by one of these choices
-abbrev pub with_bounds : Problem → List ℕ → List Choice → List Choice → List ℕ
+abbrev pub with_bounds : Costs → List ℕ → List Choice → List Choice → List ℕ
 with_bounds p leasts prefix cs = leasts ++ map (λ c. bound_of p (prefix ++ c ∷ [])) cs
 
 -- the second prefix has a greater bound, or at least the same and a later choice
-abbrev pub Follows : Problem → List Choice → List Choice → Type 0
+abbrev pub Follows : Costs → List Choice → List Choice → Type 0
 Follows p first second = (bound_of p first < bound_of p second) ⊎ ((bound_of p first ≤ bound_of p second) × IsLater second first)
 
 -- the node waits, and each other one that does follows it
-pub record IsFirst (p : Problem) (prefixes : List (List Choice)) (nodes : List Node) (i : ℕ) : Type 0 where
+pub record IsFirst (p : Costs) (prefixes : List (List Choice)) (nodes : List Node) (i : ℕ) : Type 0 where
   pub within : i < length nodes
   pub waits : (node_at nodes i).count ≡ 0
   pub others : (k : ℕ) → k < length nodes → (node_at nodes k).count ≡ 0 → (k ≡ i) ⊎ Follows p (prefix_at prefixes i) (prefix_at prefixes k)
 
 -- exactly those that wait close for the list
-pub record IsShown (p : Problem) (cs : List Choice) (prefixes : List (List Choice)) (nodes : List Node) : Type 0 where
+pub record IsShown (p : Costs) (cs : List Choice) (prefixes : List (List Choice)) (nodes : List Node) : Type 0 where
   pub closed : (i : ℕ) → i < length nodes → (node_at nodes i).count ≡ 0 → ClosesAt p cs (prefix_at prefixes i)
   pub unclosed : (i : ℕ) → i < length nodes → 0 < (node_at nodes i).count → ClosesAt p cs (prefix_at prefixes i) → ⊥

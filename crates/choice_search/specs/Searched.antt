@@ -1,7 +1,7 @@
 -- How far a search has come.
 use Rattle.std.specs.Prelude.{◌≡◌, ℕ, ◌+◌, ◌*◌, ◌<◌, ◌≤◌, List, length, All, Contains}
 use Rattle.choice_core.specs.declared.sharings.Choice.{Choice}
-use Rattle.choice_core.specs.declared.problems.Problem.{Problem}
+use Rattle.choice_core.specs.declared.problems.Costs.{Costs}
 use Rattle.choice_core.specs.Least.{IsLeast}
 use Rattle.choice_search.specs.declared.arenas.Node.{Node}
 use Rattle.choice_search.specs.Answers.{IsOpen, AllDiffer}
@@ -12,7 +12,7 @@ abbrev pub HasBranch : List (List Choice) → List Node → List Choice → Type
 HasBranch prefixes nodes q = (k : ℕ) × (k < length nodes) × (0 < (node_at nodes k).count) × (prefix_at prefixes k ≡ q)
 
 -- a search and the prefixes that it split, which don't close for the least list
-pub record IsSearched (p : Problem) (prefixes popped : List (List Choice)) (nodes : List Node) (leasts : List ℕ) : Type 0 where
+pub record IsSearched (p : Costs) (prefixes popped : List (List Choice)) (nodes : List Node) (leasts : List ℕ) : Type 0 where
   pub search : IsSearch p prefixes nodes leasts
   pub differ : AllDiffer popped
   pub opens : All (λ q. (cs : List Choice) → IsLeast p cs → IsOpen p cs q) popped
@@ -21,7 +21,7 @@ pub record IsSearched (p : Problem) (prefixes popped : List (List Choice)) (node
   pub size : length nodes ≤ 4 * length popped + 1
 
 -- the prefix is the first of those that wait
-pub record IsAt (p : Problem) (prefixes popped : List (List Choice)) (nodes : List Node) (leasts : List ℕ) (prefix : List Choice) (i : ℕ) : Type 0 where
+pub record IsAt (p : Costs) (prefixes popped : List (List Choice)) (nodes : List Node) (leasts : List ℕ) (prefix : List Choice) (i : ℕ) : Type 0 where
   pub searched : IsSearched p prefixes popped nodes leasts
   pub first : IsFirst p prefixes nodes i
   pub is : prefix ≡ prefix_at prefixes i

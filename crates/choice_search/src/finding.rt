@@ -41,7 +41,7 @@ pub fn find(problem: &Problem, nodes: &[Node], leasts: &[u64], path: &mut [Choic
     ensures depth { result.depth ≤ length path.new }
 {
     let least = leasts[0];
-    let count = problem.own.as_slice().len();
+    let count = problem.own().len();
     let mut number = 0;
     for depth in 0..count {
         let node = nodes[number];

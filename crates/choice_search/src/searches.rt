@@ -13,7 +13,8 @@ use crate::faults::SearchFault;
 use crate::finding::{Found, find};
 use crate::lifting::lift;
 use crate::trees::tree_of;
-use choice_core::{Choice, Problem, Sequence, Tree};
+use choice_core::{Choice, Problem, Tree};
+use hy_bits::Sequence;
 use std::alloc::Global;
 
 /// How many prefixes may be split. One more is split before the search gives up.
@@ -55,8 +56,9 @@ pub fn best(alloc: Global, problem: &Problem) -> Result<(Sequence<Choice>, Tree)
     ensures few { IfOk result (λ r. HasFewOpen problem.now r.0) }
     ensures size { IfOk result (λ r. length r.1.nodes ≤ 2 ^ 20 + 1) }
     ensures limit { IfErr result (λ e. e ≡ SearchFault.BranchLimit → (cs : List Choice) × IsLeast problem.now cs × HasManyOpen problem.now cs) }
+    ensures large { IfErr result (λ e. e ≡ SearchFault.BranchLimit → 9 < length problem.now.own) }
 {
-    let count = problem.own.as_slice().len();
+    let count = problem.own().len();
     let mut choices = vec![in alloc; Choice::A; count]?;
     let mut arena = Arena::new(alloc, problem)?;
     for _ in 0..=BRANCH_LIMIT {

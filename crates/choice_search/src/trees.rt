@@ -3,14 +3,15 @@
 ghost use Rattle.std.specs.Prelude.{◌≡◌, ℕ, ◌+◌, ◌<◌, ◌≤◌, ◌^◌, List, [], ◌∷◌, ◌++◌, length, reverse, OnOk, IfOk, IfErr};
 ghost use Rattle.std.specs.List.{range_with_len};
 ghost use Rattle.choice_core.specs.declared.sharings.Choice.{Choice};
-ghost use Rattle.choice_core.specs.declared.problems.Problem.{Problem};
+ghost use Rattle.choice_core.specs.declared.problems.Costs.{Costs};
 ghost use Rattle.choice_core.specs.Least.{Closes};
 ghost use Rattle.choice_search.specs.Answers.{BranchesOpen};
 ghost use Rattle.choice_search.specs.Arenas.{IsArena, StandFor, HasBounds, IsShown};
 
 use crate::arenas::Node;
 use crate::faults::SearchFault;
-use choice_core::{Sequence, Tree, TreeNode};
+use choice_core::{Tree, TreeNode};
+use hy_bits::Sequence;
 use std::alloc::Global;
 
 /// Puts the numbers of the node's children onto the stack, the first one on top.
@@ -51,7 +52,7 @@ pub fn tree_of(alloc: Global, nodes: &[Node], leasts: &[u64]) -> Result<Tree, Se
     requires arena { IsArena nodes.now }
     requires few { length nodes.now < 2 ^ 32 }
     requires size { length leasts.now ≡ length nodes.now }
-    ensures tree { IfOk result (λ t. (p : Problem) (prefixes : List (List Choice)) (cs : List Choice) → StandFor p prefixes nodes.now → HasBounds p prefixes nodes.now leasts.now → IsShown p cs prefixes nodes.now → Closes p cs t.nodes × BranchesOpen p cs ([] ∷ []) t.nodes) }
+    ensures tree { IfOk result (λ t. (p : Costs) (prefixes : List (List Choice)) (cs : List Choice) → StandFor p prefixes nodes.now → HasBounds p prefixes nodes.now leasts.now → IsShown p cs prefixes nodes.now → Closes p cs t.nodes × BranchesOpen p cs ([] ∷ []) t.nodes) }
     ensures size { IfOk result (λ t. length t.nodes ≤ length nodes.now) }
     ensures memory { IfErr result (λ e. e ≡ SearchFault.Memory) }
 {

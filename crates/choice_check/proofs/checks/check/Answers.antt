@@ -6,11 +6,11 @@ use Rattle.choice_check.proofs.Siblings.{path_start}
 use Rattle.choice_check.proofs.Dues.{root, behind_start, behind_closes, behind_lacks, behind_fault, fault_refutes}
 use Rattle.choice_check.proofs.checks.check.Goals as goal
 
-pub bound-requires-clause-fits : goal.bound-requires-clause-fits
-bound-requires-clause-fits c = (path_start c.args.problem.now c.args.buffer.now c.requires.size).fits
+pub bound-bound-requires-clause-fits : goal.bound-bound-requires-clause-fits
+bound-bound-requires-clause-fits c = (path_start c.args.problem.now c.args.buffer.now c.requires.size).fits
 
 pub loop-number-init : goal.loop-number-init
-loop-number-init c = (behind_start c.args.problem.now c.args.choices.now c.args.tree.now.nodes c.args.buffer.now c.bound.result, path_start c.args.problem.now c.args.buffer.now c.requires.size, omega arith, omega arith, c.bound.ensures.bound)
+loop-number-init c = (behind_start c.args.problem.now c.args.choices.now c.args.tree.now.nodes c.args.buffer.now c.bound-bound.result, path_start c.args.problem.now c.args.buffer.now c.requires.size, omega arith, omega arith, c.bound-bound.ensures.bound, c.bound-bound.ensures.bound)
 
 pub returns-in_err-walk-clause-only : goal.returns-in_err-walk-clause-only
 returns-in_err-walk-clause-only c =

@@ -5,18 +5,18 @@ use Rattle.choice_check.proofs.walks.down.Goals as goal
 
 pub returns-then-walk-rows-clause-node : goal.returns-then-walk-rows-clause-node
 returns-then-walk-rows-clause-node c =
-    let rows = c.as_slice-rows.ensures in
+    let rows = c.own-rows.ensures in
     too_deep c.args.problem.now c.args.choices.now c.args.number c.args.path.now c.args.walk c.requires.path c.requires.some (rw rows at c.if-walk-rows.true)
 
 pub first_choice-requires : goal.first_choice-requires
 first_choice-requires c =
-    let rows = c.as_slice-rows.ensures in
+    let rows = c.own-rows.ensures in
     let inside = rw rows at c.if-walk-rows.false in
     rw rows (c.requires.problem.choices c.args.walk.depth [] inside)
 
 pub returns-clause-node : goal.returns-clause-node
 returns-clause-node c =
-    let rows = c.as_slice-rows.ensures in
+    let rows = c.own-rows.ensures in
     let inside = rw rows at c.if-walk-rows.false in
     let first = rw rows at c.first_choice.ensures.first in
     let count = rw rows at c.count_choices.ensures.count in
@@ -25,14 +25,14 @@ returns-clause-node c =
 
 pub returns-clause-path : goal.returns-clause-path
 returns-clause-path c =
-    let rows = c.as_slice-rows.ensures in
+    let rows = c.own-rows.ensures in
     let inside = rw rows at c.if-walk-rows.false in
     let allowed = rw rows at c.first_choice.ensures.allowed in
     path_more c.args.problem.now c.args.path.now c.args.walk.depth c.first_choice.result c.requires.path inside allowed
 
 pub bound_with-requires-clause-path : goal.bound_with-requires-clause-path
 bound_with-requires-clause-path c =
-    let rows = c.as_slice-rows.ensures in
+    let rows = c.own-rows.ensures in
     let inside = rw rows at c.if-walk-rows.false in
     let allowed = rw rows at c.first_choice.ensures.allowed in
     path_more c.args.problem.now c.args.path.now c.args.walk.depth c.first_choice.result c.requires.path inside allowed

@@ -13,4 +13,4 @@ returns-then-value-walk-clause-node c =
 pub returns-clause-node : goal.returns-clause-node
 returns-clause-node c =
     let some = c.requires.some in
-    past_goes c.args.problem.now c.args.choices.now c.args.number c.args.value c.args.path.now _ c.args.walk _ some (c.if-value-walk.false ∙ c.requires.bound, c.if-not-closes.ensures) (omega (arith, some)) refl c.advance-depth.ensures.next
+    past_goes c.args.problem.now c.args.choices.now c.args.number c.args.value c.args.path.now _ c.args.walk _ some (c.if-value-walk.false ∙ c.requires.bound, c.if-not-closes.ensures) (omega (arith, some)) refl c.advance-next.ensures.next

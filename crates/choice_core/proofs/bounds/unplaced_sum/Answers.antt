@@ -10,10 +10,10 @@ use Rattle.choice_core.proofs.bounds.unplaced_sum.Goals as goal
 
 pub overflow_add-total : goal.overflow_add-total
 overflow_add-total c =
-    let items = c.as_slice-fan-items.ensures in
-    let read = (sum_read (λ f. cond (nat_lt f.from (length c.args.prefix.now)) 0 (least_price c.args.problem.now.own f)) c.as_slice-fan-items.result.now c.loop-fan.fan-index c.fan-item.result c.loop-fan-test.true c.fan-item.is).1 in
+    let items = c.fans-fan-items.ensures in
+    let read = (sum_read (λ f. cond (nat_lt f.from (length c.args.prefix.now)) 0 (least_price c.args.problem.now.own f)) c.fans-fan-items.result.now c.loop-fan.fan-index c.fan-item.result c.loop-fan-test.true c.fan-item.is).1 in
     let past : nat_lt c.fan-item.result.from (length c.args.prefix.now) ≡ false = grind (arith, nat_tests) in
-    let price = c.least_price-total.ensures ∙ ap (λ (rows : List Row). least_price rows c.fan-item.result) c.as_slice.ensures in
+    let price = c.least_price-total.ensures ∙ ap (λ (rows : List Row). least_price rows c.fan-item.result) c.own.ensures in
     let sum = rw past at read in
     let all = ap (λ (xs : List Fan). sum_by (λ f. cond (nat_lt f.from (length c.args.prefix.now)) 0 (least_price c.args.problem.now.own f)) xs) items in
     let limit = bound_small c.args.problem.now c.requires.problem c.args.prefix.now c.requires.fits in

@@ -31,7 +31,7 @@ loop-depth-preserved c =
           let longer = child_longer p prefixes nodes search.arena search.stand number child i.0.within some first.child in
           let size = i.2 in
           let test = c.loop-depth-test.true in
-          let own = ap length c.as_slice-count.ensures in
+          let own = ap length c.own-count.ensures in
           let kept = c.loop-depth.auto.path in
           let long = c.requires.size in
           let within : c.loop-depth.depth < length c.loop-depth.path = omega (arith, test, own, kept, long) in (
@@ -46,7 +46,7 @@ returns-clause-first c = λ prefixes search. (
     let i = c.loop-depth.invariant.1 prefixes search in
     let size = i.2 in
     let past = c.loop-depth-test.false in
-    let own = ap length c.as_slice-count.ensures in
-    let end : length c.as_slice-count.result.now ≡ c.loop-depth.depth = (let low = c.loop-depth.auto.depth-end in omega (arith, past, low)) in
+    let own = ap length c.own-count.ensures in
+    let end : length c.own-count.result.now ≡ c.loop-depth.depth = (let low = c.loop-depth.auto.depth-end in omega (arith, past, low)) in
     let waits = whole_waits c.args.problem.now prefixes c.args.nodes.now c.args.leasts.now search c.loop-depth.number i.0.within (omega (arith, size, own, end)) in
     (down_end c.args.problem.now prefixes c.args.nodes.now c.args.leasts.now search c.loop-depth.number i.0 waits, ap (λ (n : ℕ). take n c.loop-depth.path) end ∙ i.1))

@@ -1,14 +1,14 @@
 use Rattle.std.proofs.Common.{◌≡◌, ℕ, ◌<◌, List, ◌∷◌, ◌++◌, length, take, drop, sym, ◌∙◌, ap, subst, arith, length-take-le}
 use Rattle.std.proofs.lemmas.List.{take_at}
 use Rattle.choice_core.specs.declared.sharings.Choice.{Choice}
-use Rattle.choice_core.specs.declared.problems.Problem.{Problem}
+use Rattle.choice_core.specs.declared.problems.Costs.{Costs}
 use Rattle.choice_search.specs.declared.arenas.Node.{Node}
 use Rattle.choice_search.specs.Arenas.{prefix_at}
 use Rattle.choice_search.specs.Searched.{IsSearched}
 use Rattle.choice_search.proofs.Opens.{new_arena, new_some, new_others, new_searched}
 use Rattle.choice_search.proofs.searches.advance.Goals as goal
 
-on_path : (p : Problem) (path : List Choice) (depth : ℕ) → length path ≡ length p.own → depth < length p.own → length (take depth path) < length p.own
+on_path : (p : Costs) (path : List Choice) (depth : ℕ) → length path ≡ length p.own → depth < length p.own → length (take depth path) < length p.own
 on_path p path depth size short = let long = length-take-le depth path (omega (arith, size, short)) in omega (arith, long, short)
 
 written : (len : ℕ) (new old : List ℕ) → length new ≡ length old → length old ≡ len → take len (new ++ drop (length new) old) ≡ new

@@ -1,7 +1,7 @@
 use Rattle.std.proofs.Common.{◌≡◌, ℕ, ◌^◌, ◌≤◌, List, [], ◌∷◌, ◌++◌, length, take, drop, sym, ◌∙◌, ap, refl, arith}
 use Rattle.std.proofs.lemmas.List.{take_at, take_all}
 use Rattle.choice_core.specs.declared.sharings.Choice.{Choice}
-use Rattle.choice_core.specs.declared.problems.Problem.{Problem}
+use Rattle.choice_core.specs.declared.problems.Costs.{Costs}
 use Rattle.choice_core.specs.declared.trees.TreeNode.{TreeNode}
 use Rattle.choice_core.specs.Problems.{IsProblem}
 use Rattle.choice_core.specs.Least.{IsLeast, Closes}
@@ -10,6 +10,7 @@ use Rattle.choice_search.specs.Answers.{BranchesOpen, HasFewOpen}
 use Rattle.choice_search.specs.Arenas.{prefix_at, StandFor, HasBounds, IsShown}
 use Rattle.choice_search.specs.Searched.{IsSearched, IsAt}
 use Rattle.choice_search.proofs.Opens.{nothing_split, found_at, first_least, whole_shown, whole_few, many_open}
+use Rattle.choice_search.proofs.Few.{many_modules}
 use Rattle.choice_search.proofs.searches.best.Goals as goal
 
 -- what is written through the whole slice is what stands there
@@ -17,13 +18,13 @@ written : (len : ℕ) (new old : List Choice) → length new ≡ length old → 
 written len new old size whole = take_at new (drop (length new) old) len (omega (arith, size, whole))
 
 -- a complete list that was found, with its tree
-record IsFound (p : Problem) (list : List Choice) (tree : List TreeNode) : Type 0 where
+record IsFound (p : Costs) (list : List Choice) (tree : List TreeNode) : Type 0 where
   least : IsLeast p list
   closes : Closes p list tree
   branches : BranchesOpen p list ([] ∷ []) tree
   few : HasFewOpen p list
 
-found : (p : Problem) → IsProblem p → (prefixes popped : List (List Choice)) (nodes nodes' : List Node) (leasts leasts' : List ℕ) (path list : List Choice) (depth i : ℕ) (tree : List TreeNode) → IsSearched p prefixes popped nodes leasts → IsAt p prefixes popped nodes leasts (take depth path) i → nodes' ≡ nodes → leasts' ≡ leasts → list ≡ path → length path ≡ length p.own → depth ≡ length p.own → length popped ≤ 2 ^ 18 → ((p : Problem) (prefixes : List (List Choice)) (cs : List Choice) → StandFor p prefixes nodes' → HasBounds p prefixes nodes' leasts' → IsShown p cs prefixes nodes' → Closes p cs tree × BranchesOpen p cs ([] ∷ []) tree) → IsFound p list tree
+found : (p : Costs) → IsProblem p → (prefixes popped : List (List Choice)) (nodes nodes' : List Node) (leasts leasts' : List ℕ) (path list : List Choice) (depth i : ℕ) (tree : List TreeNode) → IsSearched p prefixes popped nodes leasts → IsAt p prefixes popped nodes leasts (take depth path) i → nodes' ≡ nodes → leasts' ≡ leasts → list ≡ path → length path ≡ length p.own → depth ≡ length p.own → length popped ≤ 2 ^ 18 → ((p : Costs) (prefixes : List (List Choice)) (cs : List Choice) → StandFor p prefixes nodes' → HasBounds p prefixes nodes' leasts' → IsShown p cs prefixes nodes' → Closes p cs tree × BranchesOpen p cs ([] ∷ []) tree) → IsFound p list tree
 found p problem prefixes popped nodes nodes' leasts leasts' path list depth i tree searched at same same' is size whole few shows = record {
   least = rw list_is (first_least p problem prefixes nodes leasts searched.search i at.first long);
   closes = rw list_is shown.0;
@@ -44,7 +45,7 @@ found p problem prefixes popped nodes nodes' leasts leasts' path list depth i tr
     shown = shows p prefixes (prefix_at prefixes i) (rw same searched.search.stand) (rw (same, same') searched.search.bounds) (rw same (whole_shown p problem prefixes popped nodes leasts searched i at.first long))
 
 pub loop-init : goal.loop-init
-loop-init c = ([] ∷ [], [], nothing_split c.args.problem.now c.in_ok-arena.arena.nodes.items c.in_ok-arena.arena.leasts.items c.in_ok-arena.ensures, refl, (let count = ap length c.as_slice-count.ensures in let size = c.in_ok-choices.ensures.len in omega (arith, count, size, c.in_ok-choices.choices.ok)))
+loop-init c = ([] ∷ [], [], nothing_split c.args.problem.now c.in_ok-arena.arena.nodes.items c.in_ok-arena.arena.leasts.items c.in_ok-arena.ensures, refl, (let count = ap length c.own-count.ensures in let size = c.in_ok-choices.ensures.len in omega (arith, count, size, c.in_ok-choices.choices.ok)))
 
 pub returns-then-found-count : goal.returns-then-found-count
 returns-then-found-count c =
@@ -55,7 +56,7 @@ returns-then-found-count c =
     let list = c.new-then-found-count.ensures ∙ written c.loop.choices.len c.find-found.new.path c.loop.choices.items kept (sym c.loop.choices.ok.0) in
     let test = c.loop-test.true in
     let turns = i.3 in
-    let answer = found p c.requires i.0 i.1 c.loop.arena.nodes.items c.as_slice-nodes.result.now c.loop.arena.leasts.items c.as_slice-then-found-count.result.now c.find-found.new.path c.new-then-found-count.result c.find-found.result.depth c.find-found.result.number c.in_ok-tree.tree.nodes i.2 at c.as_slice-nodes.ensures.value c.as_slice-then-found-count.ensures.value list (kept ∙ i.4) (c.if-found-count.true ∙ ap length c.as_slice-count.ensures) (omega (arith, test, turns)) c.in_ok-tree.ensures.tree in
+    let answer = found p c.requires i.0 i.1 c.loop.arena.nodes.items c.as_slice-nodes.result.now c.loop.arena.leasts.items c.as_slice-then-found-count.result.now c.find-found.new.path c.new-then-found-count.result c.find-found.result.depth c.find-found.result.number c.in_ok-tree.tree.nodes i.2 at c.as_slice-nodes.ensures.value c.as_slice-then-found-count.ensures.value list (kept ∙ i.4) (c.if-found-count.true ∙ ap length c.own-count.ensures) (omega (arith, test, turns)) c.in_ok-tree.ensures.tree in
     record {
       least = answer.least;
       closes = answer.closes;
@@ -63,6 +64,7 @@ returns-then-found-count c =
       few = answer.few;
       size = (let short = c.in_ok-tree.ensures.size in let nodes = ap length c.as_slice-nodes.ensures.value in let few = i.2.size in omega (arith, short, nodes, few, turns, test));
       limit = tt;
+      large = tt;
     }
 
 pub advance-requires-clause-stands : goal.advance-requires-clause-stands
@@ -88,3 +90,11 @@ returns-clause-limit c = λ is. (
     let past = c.loop-test.false in
     let many = i.3 in
     many_open c.args.problem.now c.requires i.0 i.1 c.loop.arena.nodes.items c.loop.arena.leasts.items i.2 (omega (arith, past, many)))
+
+pub returns-clause-large : goal.returns-clause-large
+returns-clause-large c = λ is. (
+    let i = c.loop.invariant in
+    let past = c.loop-test.false in
+    let many = i.3 in
+    let open_ = many_open c.args.problem.now c.requires i.0 i.1 c.loop.arena.nodes.items c.loop.arena.leasts.items i.2 (omega (arith, past, many)) in
+    many_modules c.args.problem.now open_.0 open_.2)

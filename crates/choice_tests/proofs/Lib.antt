@@ -1,0 +1,3 @@
+mod Ladders
+mod Parts
+mod Three
