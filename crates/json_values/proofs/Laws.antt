@@ -12,8 +12,9 @@ use Rattle.serde_json.specs.Events.{items_len}
 use Rattle.json_values.specs.declared.fault.InputKind.TheVariants.{Shape as Unlike}
 use Rattle.json_values.specs.declared.fault.InputFault.{InputFault}
 use Rattle.json_values.specs.Walk.{fault_at, array_words, struct_words, named, Reading, under, then_by, wanted, dotted, place, items_words, fields_words, no_extra, names_of, extra, words_at}
-use Rattle.json_values.specs.File.{members_of_text, file_words, in_file, after, merged, both_words, own_words, ports_words, port_words, all_words, names_of_role, is_of, of_role}
-use Rattle.json_values.specs.Meaning.{Says, SayItems, SayFields, a_number, an_array, a_struct, all_items, next_item, all_fields, next_field, field_names, ports_of, HasPort, HasPorts, IsText, AreTexts, IsFirstFault}
+use Rattle.hy_bits.specs.Ports.{is_of, ports_of}
+use Rattle.json_values.specs.File.{members_of_text, file_words, in_file, after, merged, both_words, own_words, ports_words, port_words, all_words, names_of_role, of_role}
+use Rattle.json_values.specs.Meaning.{Says, SayItems, SayFields, a_number, an_array, a_struct, all_items, next_item, all_fields, next_field, field_names, HasPort, HasPorts, IsText, AreTexts, IsFirstFault}
 use Rattle.json_values.proofs.Extras.{only_from_no_extra, no_extra_from_only}
 use Rattle.json_values.proofs.Induction.{EachField, by_shapes}
 use Rattle.json_values.proofs.Numbers.{scalar_gives, scalar_reads}

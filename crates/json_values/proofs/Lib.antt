@@ -1,4 +1,5 @@
 mod Extras
+pub mod Fitting
 mod Induction
 pub mod Laws
 pub mod Making

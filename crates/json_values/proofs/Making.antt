@@ -27,7 +27,7 @@ use Rattle.serde_json.specs.View.{view, items_of, members_view}
 use Rattle.serde_json.proofs.Views.{Entry, get_member-put, get_member-put_other, members_view-insert_entry}
 use Rattle.json_values.specs.Walk.{is_among, words_at}
 use Rattle.json_values.specs.Meaning.{number_of, Says, SayItems, SayFields, a_number, an_array, a_struct, all_items, next_item, all_fields, next_field, field_names, HasOnly, HasPort, HasPorts, IsReadInText}
-use Rattle.json_values.specs.File.{is_of}
+use Rattle.hy_bits.specs.Ports.{is_of}
 use Rattle.json_values.specs.Text.{Making, Member, BeginsWith, HasTextFields, field_leaves, value_step, member_step, value_made, text_value, scalar_value, items_value, fields_value, making, an_array as made_array, an_object as made_object, has_text_names, text_names_step, text_name_step, are_distinct, has_distinct_names, distinct_names_step, distinct_name_step}
 use Rattle.json_values.proofs.Induction.{EachField, by_shapes}
 use Rattle.json_values.proofs.Laws.{reads, text_from}

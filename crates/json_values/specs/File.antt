@@ -1,21 +1,16 @@
 -- The text of a party: one object with a member for each of the party's ports.
-use Rattle.std.specs.Prelude.{◌≡◌, ◌≢◌, ℕ, List, [], ◌∷◌, Bool, true, false, Option, Some, None, Result, Ok, Err, option_and_then, if◌then◌else◌}
+use Rattle.std.specs.Prelude.{◌≡◌, ◌≢◌, ℕ, List, [], ◌∷◌, Option, Some, None, Result, Ok, Err, option_and_then, if◌then◌else◌}
 use Rattle.std.specs.Str.{is_utf8}
 use Rattle.hy_bits.specs.declared.turns.Role.{Role}
 use Rattle.hy_bits.specs.declared.turns.Role.TheVariants.{P0, P1}
 use Rattle.hy_bits.specs.declared.shape.Port.{Port}
+use Rattle.hy_bits.specs.Ports.{is_of}
 use Rattle.serde_json.specs.Data.{Members}
 use Rattle.serde_json.specs.Find.{as_object, get_member}
 use Rattle.serde_json.specs.Read.{read}
 use Rattle.json_values.specs.declared.fault.InputKind.TheVariants.{Json, Memory}
 use Rattle.json_values.specs.declared.fault.InputFault.{InputFault}
 use Rattle.json_values.specs.Walk.{Reading, fault_at, under, then_by, wanted, words_at, extra, no_extra}
-
-abbrev pub is_of : Role → Role → Bool
-is_of P0 P0 = true
-is_of P0 P1 = false
-is_of P1 P0 = false
-is_of P1 P1 = true
 
 -- the members of the object that the bytes are
 abbrev pub members_of_text : List ℕ → Option Members

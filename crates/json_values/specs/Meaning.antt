@@ -4,6 +4,7 @@ use Rattle.hy_bits.specs.declared.scalar.Scalar.{Scalar}
 use Rattle.hy_bits.specs.declared.turns.Role.{Role}
 use Rattle.hy_bits.specs.declared.turns.Role.TheVariants.{P0, P1}
 use Rattle.hy_bits.specs.declared.shape.Port.{Port}
+use Rattle.hy_bits.specs.Ports.{ports_of}
 use Rattle.hy_bits.specs.declared.shape.Shape.{Shape}
 use Rattle.hy_bits.specs.declared.shape.Shape.TheVariants as V
 use Rattle.hy_bits.specs.declared.shape.Field as F
@@ -13,7 +14,7 @@ use Rattle.serde_json.specs.Data.{Data, Items, no_items, item, Members, no_membe
 use Rattle.serde_json.specs.Find.{as_number, as_integer, as_array, as_object, get_member}
 use Rattle.serde_json.specs.Events.{items_len}
 use Rattle.json_values.specs.Walk.{is_among}
-use Rattle.json_values.specs.File.{members_of_text, of_role, names_of_role, is_of, in_file, own_words}
+use Rattle.json_values.specs.File.{members_of_text, of_role, names_of_role, in_file, own_words}
 use Rattle.json_values.specs.declared.fault.InputFault.{InputFault}
 
 -- the number that a word of a scalar is read as
@@ -62,11 +63,6 @@ mutual
         → get_member (F.out-Field field).name found ≡ Some value → Says (F.out-Field field).shape value first → SayFields fields found rest → SayFields (field ∷ fields) found (first ++ rest)
 
 -- ---- texts
-
--- the ports of a party
-abbrev pub ports_of : Role → List Port → List Port
-ports_of role [] = []
-ports_of role (port ∷ ports) = if is_of role port.role then port ∷ ports_of role ports else ports_of role ports
 
 -- the object has a member of the port's name, which says these words
 abbrev pub HasPort : Port → Members → List ℕ → Type 0

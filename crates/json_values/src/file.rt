@@ -3,6 +3,8 @@ ghost use Rattle.serde_json.specs.View.{members_view};
 ghost use Rattle.serde_json.specs.Errors.{IsMemory};
 ghost use Rattle.json_values.specs.declared.fault.InputKind.TheVariants.{Json, Memory as WantOfMemory};
 ghost use Rattle.json_values.specs.Walk.{Reading, Leaves, IsStop, onto, under, fault_at, extra as extra_of, no_extra};
+ghost use Rattle.hy_bits.specs.Shape.{FitPorts};
+ghost use Rattle.hy_bits.specs.Ports.{ports_of, owners, own_of};
 ghost use Rattle.json_values.specs.Names.{IsSetOf};
 ghost use Rattle.json_values.specs.Meaning.{IsText, AreTexts, IsFirstFault};
 ghost use Rattle.json_values.specs.File.{Tells, object_reading, members_of_text, file_words as words_of_file, port_words as words_of_port, own_port as words_of_own, ports_words as words_of_ports, names_of_role, own_words, all_words as words_of_all, both_words, in_file};
@@ -16,13 +18,19 @@ use std::collections::BTreeSet;
 
 /// The words of all ports, from the texts of both parties, or the first fault: any of A comes before any of B. It takes
 /// time linear in the texts, but for the look-up of names: n ports or fields take n log n comparisons.
-#[tactic(auto, using(crate::proofs::Laws::texts_give))]
+#[tactic(auto, using(crate::proofs::Laws::texts_give, crate::proofs::Fitting::both_fit, crate::proofs::Fitting::both_own))]
 pub fn inputs_of(alloc: Global, a: &[u8], b: &[u8], ports: &[Port]) -> Result<Inputs, InputFault>
     // The words, or the first fault.
     ensures exact { Tells result (both_words ports.now a.now b.now) }
 
     // What is read is what the texts say.
     ensures says { IfOk result (AreTexts ports.now a.now b.now) }
+
+    // There is one word for each leaf of the ports, in its width.
+    ensures fits { IfOk result (FitPorts ports.now) }
+
+    // Each party's text by itself says the words of the party's leaves among all.
+    ensures own { IfOk result (λ inputs. IsText Role.P0 ports.now a.now (own_of Role.P0 (owners ports.now) inputs) × IsText Role.P1 ports.now b.now (own_of Role.P1 (owners ports.now) inputs)) }
 
     // A fault is the first of A's text, or A's text has none and it is the first of B's.
     ensures first { IfErr result (λ fault. fault.fault ≢ WantOfMemory → IsFirstFault ports.now a.now b.now fault) }
@@ -51,7 +59,7 @@ fn read_both(alloc: Global, a: &[u8], b: &[u8], ports: &[Port]) -> Result<Vec<u6
 }
 
 /// The words of one party's ports, from its text, or the first fault of that text. It takes time as `inputs_of` does.
-#[tactic(auto, using(crate::proofs::Laws::text_gives))]
+#[tactic(auto, using(crate::proofs::Laws::text_gives, crate::proofs::Fitting::own_fits))]
 pub fn own_inputs(
     alloc: Global,
     text: &[u8],
@@ -63,6 +71,9 @@ pub fn own_inputs(
 
     // What is read is what the text says.
     ensures says { IfOk result (λ inputs. IsText role ports.now text.now inputs) }
+
+    // There is one word for each leaf of the party's ports, in its width.
+    ensures fits { IfOk result (FitPorts (ports_of role ports.now)) }
 
     // A text that says words has no fault: only memory can be wanting.
     ensures only { IfErr result (λ fault. fault.fault ≢ WantOfMemory → (words : List ℕ) → IsText role ports.now text.now words → ⊥) }

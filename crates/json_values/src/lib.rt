@@ -22,6 +22,16 @@
 //! | `proofs/Making.antt` | the value of a shape and its words says these words, and is read as them |
 //!
 //! The walks call themselves as deep as the shape; the text nests at most 127 deep, as `serde_json` reads it.
+//!
+//! # Guarantees
+//!
+//! - `own_inputs` gives the words of a party's ports from its text, or the first fault: words come exactly where the text says them,
+//!   and they fit the party's ports (`src/file.rt`; read `specs/Meaning.antt`, then for the faults `specs/Walk.antt` and
+//!   `specs/File.antt`).
+//! - `inputs_of` does the same for both texts, all of the first party's before the second's; its words fit the ports, and each party's
+//!   own are those of its leaves among all (`src/file.rt`; read `specs/Meaning.antt`, `hy_bits`'s `specs/Ports.antt`, `specs/File.antt`).
+//! - `text_of` gives the value of a shape and its words, which is read back as these words (`src/text.rt`; read `specs/Text.antt`, then
+//!   `specs/Meaning.antt`).
 #![tactic(auto)]
 
 mod fault;
@@ -33,6 +43,3 @@ mod walk;
 pub use fault::{InputFault, InputKind};
 pub use file::{inputs_of, own_inputs};
 pub use text::text_of;
-
-#[cfg(test)]
-mod tests;

@@ -6,7 +6,8 @@ use Rattle.hy_bits.specs.declared.turns.Role.TheVariants.{P0, P1}
 use Rattle.hy_bits.specs.declared.shape.Port.{Port}
 use Rattle.json_values.specs.Names.{holds}
 use Rattle.json_values.specs.Walk.{is_among}
-use Rattle.json_values.specs.File.{names_of_role, is_of}
+use Rattle.hy_bits.specs.Ports.{is_of}
+use Rattle.json_values.specs.File.{names_of_role}
 use Rattle.json_values.proofs.Sets.{inserted, port_there}
 use Rattle.json_values.proofs.file.port_names.Goals as goal
 use Rattle.json_values.proofs.file.port_names.Goals.{then-eq+in_ok-insert, else-eq}

@@ -1,5 +1,5 @@
-use super::*;
 use hy_bits::{Memory, Text};
+use hy_io::{Failed, FileError, Files, MemFiles, MemSink, RealFiles, RealSink, Sink};
 use std::alloc::Global;
 use std::test::Fail;
 

@@ -1,6 +1,6 @@
 use Rattle.std.proofs.Common.{◌∙◌, rules}
 use Rattle.hy_bits.specs.declared.shape.Shape.{the_lemmas}
-use Rattle.json_values.proofs.tests.nested.Goals as goal
+use Rattle.io_tests.proofs.inputs.nested.Goals as goal
 
 pub returns-clause-names : goal.returns-clause-names
 returns-clause-names c =

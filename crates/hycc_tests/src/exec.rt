@@ -1,6 +1,6 @@
-use super::*;
 use hy_bits::{Memory, Text};
 use hy_io::{MemFiles, MemSink};
+use hycc_top::{Exec, exec_with, hycc};
 use rand_chacha::ChaCha20Rng;
 use rand_core::SeedableRng;
 use std::alloc::{AllocError, Global};

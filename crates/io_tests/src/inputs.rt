@@ -4,8 +4,8 @@ ghost use Rattle.hy_bits.specs.declared.scalar.Scalar.TheVariants.{S8, U64, B1};
 ghost use Rattle.hy_bits.specs.declared.shape.Field.{out-Field};
 ghost use Rattle.json_values.specs.Text.{has_text_names, HasTextFields};
 
-use crate::{InputFault, InputKind, inputs_of, own_inputs, text_of};
 use hy_bits::{Field, Inputs, Memory, Port, Role, Scalar, Shape, Text};
+use json_values::{InputFault, InputKind, inputs_of, own_inputs, text_of};
 use sqlite_items::{Boxed, Items};
 use std::alloc::Global;
 use std::process::Abort;

@@ -1,5 +1,5 @@
-use super::*;
 use choice_core::Table;
+use cost_table::{TableFault, table_of};
 use std::alloc::{AllocError, Global};
 use std::test::Fail;
 

@@ -1,0 +1,5 @@
+//! Tests of the commands, each by its words over files and a sink in memory.
+#![tactic(auto)]
+
+#[cfg(test)]
+mod exec;
