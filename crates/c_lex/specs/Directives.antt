@@ -1,4 +1,4 @@
--- What each line of a text does (C11 6.10).
+-- A reference lexer, its part on lines: what each line of a text does (C11 6.10).
 use Rattle.std.specs.Prelude.{ℕ, zero, suc, ◌+◌, ◌-◌, ◌^◌, Bool, false, not, ◌&&◌, ◌||◌, ◌==◌, List, [], ◌∷◌, ◌++◌, length, drop, Option, None, Some, Result, Ok, Err, if◌then◌else◌, nat_le, nat_eq, is_none, codes}
 use Rattle.std.specs.List.{starts_with}
 use Rattle.std.specs.Str.{bytes_eq}

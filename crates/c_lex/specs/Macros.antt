@@ -1,4 +1,4 @@
--- The tokens that pieces stand for, macros replaced (C11 6.10.3, object-like macros alone).
+-- A reference lexer, its part on macros: the tokens that pieces stand for (C11 6.10.3, object-like macros alone).
 use Rattle.std.specs.Prelude.{ℕ, ◌-◌, List, [], ◌∷◌, ◌++◌, length, map, Option, None, Some, Result, Ok, Err, if◌then◌else◌, nat_lt}
 use Rattle.c_tree.specs.declared.token.Place.{Place}
 use Rattle.c_tree.specs.declared.token.Token.{Token}

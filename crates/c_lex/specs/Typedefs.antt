@@ -1,4 +1,4 @@
--- Which names are names of types (C11 6.7.8). Tokens are cut into declarations; each that has a typedef adds a name to the types
+-- A reference lexer, its part on types: which names are names of types (C11 6.7.8). Tokens are cut into declarations; each that has a typedef adds a name to the types
 -- that hold behind it.
 use Rattle.std.specs.Prelude.{ℕ, ◌+◌, ◌-◌, Bool, false, not, ◌&&◌, ◌==◌, List, [], ◌∷◌, ◌++◌, Option, None, Some, if◌then◌else◌, codes}
 use Rattle.std.specs.Str.{bytes_eq}

@@ -1,11 +1,10 @@
-ghost use Rattle.std.specs.Prelude.{◌≡◌, ◌<◌, ◌≤◌, ◌^◌, ◌++◌, ◌∷◌, [], true, length, IfOk, IfErr, ◌≢◌, List, Ok, Err};
+ghost use Rattle.std.specs.Prelude.{◌≡◌, ◌<◌, ◌≤◌, ◌^◌, ◌++◌, ◌∷◌, [], true, length, IfOk, IfErr, ◌≢◌, Ok, Err};
 ghost use Rattle.std.specs.List.{list_all};
 ghost use Rattle.c_lex.specs.Lines.{lines_of};
 ghost use Rattle.c_lex.specs.Directives.{nothing_read, steps};
 ghost use Rattle.c_lex.specs.Lexing.{tokens_of, end_token};
 ghost use Rattle.c_lex.specs.Typedefs.{named};
 ghost use Rattle.c_tree.specs.TokenLists.{is_inner};
-ghost use Rattle.c_tree.specs.declared.token.Token.{Token};
 ghost use Rattle.c_lex.specs.Answer.{Gives};
 ghost use Rattle.c_lex.specs.Inner.{read_of};
 
@@ -17,16 +16,18 @@ use c_tree::{Place, Token, TokenKind, Tokens};
 use hy_bits::{Scalar, Text};
 use std::alloc::Global;
 
-/// The tokens of a text of fewer than 2^31 bytes, or its first fault. It takes time linear in the text and in the
-/// tokens made, and memory for both.
+/// The tokens of the text `bytes`, of fewer than 2^31 bytes. The time is linear in the text, and in the tokens that are made with
+/// the bytes of their texts; the memory is for both.
+///
+/// # Errors
+///
+/// The first fault of the text with its place, or want of memory, of which the place says nothing.
 pub fn tokens(alloc: Global, bytes: &[u8]) -> Result<Tokens, LexFault>
     requires { length bytes.now < 2 ^ 31 }
     // The tokens are those that the definition gives the text.
     ensures ok { IfOk result (λ tokens. tokens_of bytes.now ≡ Ok tokens) }
     // A fault other than want of memory is the definition's, with its place.
     ensures fault { IfErr result (λ fault. fault.kind ≢ LexKind.Memory → tokens_of bytes.now ≡ Err fault) }
-    // A text has at most one list of tokens.
-    ensures one { (a b : List Token) → tokens_of bytes.now ≡ Ok a → tokens_of bytes.now ≡ Ok b → a ≡ b }
 {
     let scan = scan(alloc, bytes)?;
     let reader = read(alloc, &scan.pieces)?;

@@ -12,7 +12,13 @@
 //! | `specs/Names.antt` | names and macros in lists |
 //! | `specs/Answer.antt`, `specs/Inner.antt`, `specs/Scopes.antt`, `specs/Views.antt` | what the private functions answer |
 //!
-//! A text has one list of tokens or one first fault, since each definition is a function of what the one before it gives.
+//! # Guarantees
+//!
+//! - `tokens` gives the tokens of a text, or its first fault with its place (`src/lexer.rt`; read `c_scan`'s `specs/Pieces.antt`, then
+//!   `specs/Lines.antt`, `specs/Macros.antt`, `specs/Directives.antt`, `specs/Typedefs.antt` and `specs/Lexing.antt`).
+//!
+//! `specs/Macros.antt`, `specs/Directives.antt` and `specs/Typedefs.antt` are a reference lexer: each is a function of what the one
+//! before it gives.
 #![tactic(auto)]
 
 mod fault;
@@ -24,6 +30,3 @@ mod typedefs;
 
 pub use fault::{LexFault, LexKind};
 pub use lexer::tokens;
-
-#[cfg(test)]
-mod tests;

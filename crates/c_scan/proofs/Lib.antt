@@ -1,4 +1,5 @@
 pub mod Bools
+mod Endless
 pub mod Goodness
 pub mod Longest
 pub mod Scanning

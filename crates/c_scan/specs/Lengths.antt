@@ -1,6 +1,6 @@
 -- The lengths of what a text begins with, which the private functions count; that they are those of the longest piece is proved
 -- in proofs/Longest.antt.
-use Rattle.std.specs.Prelude.{ℕ, zero, suc, ◌+◌, Bool, false, not, ◌&&◌, ◌==◌, List, [], ◌∷◌, take, drop, Option, None, Some, if◌then◌else◌, nat_eq, codes}
+use Rattle.std.specs.Prelude.{◌≡◌, ℕ, zero, suc, ◌+◌, ◌<◌, ◌≤◌, Bool, false, not, ◌&&◌, ◌==◌, slice_index, List, [], ◌∷◌, take, drop, Option, None, Some, if◌then◌else◌, nat_eq, codes}
 use Rattle.std.specs.Option.{option_map}
 use Rattle.std.specs.List.{prefix_len, starts_with}
 use Rattle.hy_bits.specs.declared.scalar.Scalar.TheVariants.{S32}
@@ -28,6 +28,10 @@ string_length taken (byte ∷ rest) =
     if byte == 10 then None
     else if byte == 34 && not taken then Some 1
     else option_map suc (string_length (byte == 92 && not taken) rest)
+
+-- no string that begins at one of these places ends on its line
+abbrev pub AreEndless : List ℕ → ℕ → ℕ → Type 0
+AreEndless text from to = (at : ℕ) → from ≤ at → at < to → slice_index text at ≡ 34 → string_length false (drop (suc at) text) ≡ None
 
 -- the bytes of a number behind this byte
 abbrev pub number_length : ℕ → List ℕ → ℕ

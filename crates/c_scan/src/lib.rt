@@ -9,6 +9,12 @@
 //! | `specs/Pieces.antt` | what that piece is, and the pieces of a whole text |
 //! | `specs/Places.antt`, `specs/Good.antt` | what is proved of the tokens among pieces |
 //! | `specs/Lengths.antt` | the lengths that the private functions count |
+//!
+//! # Guarantees
+//!
+//! - `scan` gives the pieces of a text, each the longest that begins at its place; the tokens among them are as those of a list of
+//!   tokens must be, and each stands in the text at its place (`src/scanner.rt`; read `specs/Spelled.antt`, `specs/Pieces.antt`,
+//!   `specs/Good.antt` and `specs/Places.antt`).
 #![tactic(auto)]
 
 mod bytes;
@@ -21,6 +27,3 @@ mod words;
 
 pub use piece::{Piece, Scan};
 pub use scanner::scan;
-
-#[cfg(test)]
-mod tests;

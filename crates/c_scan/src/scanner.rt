@@ -1,8 +1,8 @@
-ghost use Rattle.std.specs.Prelude.{◌≡◌, ◌<◌, ◌≤◌, ◌+◌, ◌^◌, ℕ, true, Option, length, drop, false, IfOk};
+ghost use Rattle.std.specs.Prelude.{◌≡◌, ◌<◌, ◌≤◌, ◌+◌, ◌^◌, ℕ, true, Option, None, length, drop, false, IfOk, IsTrue};
 ghost use Rattle.std.specs.List.{list_all};
 ghost use Rattle.c_scan.specs.Pieces.{word_front as front_of_word, number_front as front_of_number, string_piece as piece_of_string, plain_token as token_of_kind, cut_of, Cut};
 ghost use Rattle.c_scan.specs.Spelled.{begins_number as begins_a_number};
-ghost use Rattle.c_scan.specs.Lengths.{constant_front as front_of_character, quoted_front as front_of_string, marked_front as front_of_mark, mark_length as length_of_mark, closed_front as front_of_block, front_at, string_length as length_of_string, block_length as length_of_block};
+ghost use Rattle.c_scan.specs.Lengths.{constant_front as front_of_character, quoted_front as front_of_string, marked_front as front_of_mark, mark_length as length_of_mark, closed_front as front_of_block, front_at, string_length as length_of_string, block_length as length_of_block, AreEndless};
 ghost use Rattle.c_scan.specs.Literals.{character_of as character_at};
 ghost use Rattle.c_scan.specs.Places.{AreSpelled};
 ghost use Rattle.c_scan.specs.Good.{is_good};
@@ -19,7 +19,12 @@ use c_tree::{Place, Token, TokenKind};
 use hy_bits::{Memory, Scalar, Text};
 use std::alloc::Global;
 
-/// The pieces of a text of fewer than 2^31 bytes. It takes time linear in the text.
+/// The pieces of a text of fewer than 2^31 bytes. The time is linear in the text, whatever it is: a line is searched for a
+/// string's end once past the first string that has none.
+///
+/// # Errors
+///
+/// Memory ran out.
 pub fn scan(alloc: Global, text: &[u8]) -> Result<Scan, Memory>
     requires { length text.now < 2 ^ 31 }
     // The pieces are those of the definition, each the longest that begins at its place.
@@ -40,11 +45,13 @@ fn cut(alloc: Global, text: &[u8]) -> Result<Scan, Memory>
     let mut pieces = Vec::new(alloc);
     let mut place = Place { line: 1, column: 1 };
     let mut inside = 0;
+    let mut endless = 0;
     for (index, byte) in text.iter().enumerate() {
         if inside > 0 {
             inside -= 1;
         } else {
-            match front_of(alloc, place, &text[index..])? {
+            endless = endless_from(text, index, endless);
+            match front_of(alloc, place, &text[index..], index < endless)? {
                 Front::Blank(count) => inside = count.saturating_sub(1),
                 Front::Piece(piece, count) => {
                     pieces.push(piece)?;
@@ -68,9 +75,37 @@ fn cut(alloc: Global, text: &[u8]) -> Result<Scan, Memory>
     })
 }
 
-/// What a text, of which this place is the first byte's, begins with.
-fn front_of(alloc: Global, place: Place, text: &[u8]) -> Result<Front, Memory>
+/// Up to where no string that begins at `index` or after it ends on its line, where that is known up to `endless`. A
+/// string is searched only where nothing is known of its quote, so a line is searched once past its first string without
+/// an end.
+fn endless_from(text: &[u8], index: usize, endless: usize) -> usize
+    requires within { index < length text.now }
+    requires known { AreEndless text.now index endless }
+    ensures { AreEndless text.now index result }
+{
+    if endless <= index && text[index] == b'"' {
+        index + endless_length(&text[index..])
+    } else {
+        endless
+    }
+}
+
+/// The bytes up to the line's end of a text that begins with a string without an end, and 0 where its string ends.
+fn endless_length(text: &[u8]) -> usize
+    ensures endless { AreEndless text.now 0 result }
+    ensures within { result ≤ length text.now }
+{
+    match text {
+        [_, rest @ ..] if string_length(rest).is_none() => line_length(text),
+        _ => 0,
+    }
+}
+
+/// What a text, of which this place is the first byte's, begins with. A string that it begins with is known not to end on
+/// its line where `endless` is true.
+fn front_of(alloc: Global, place: Place, text: &[u8], endless: bool) -> Result<Front, Memory>
     requires column { place.column + length text.now < 2 ^ 32 }
+    requires endless { IsTrue endless → AreEndless text.now 0 1 }
     ensures { IfOk result (λ front. front ≡ front_at place text.now) }
 {
     let Some(byte) = text.first() else {
@@ -92,7 +127,7 @@ fn front_of(alloc: Global, place: Place, text: &[u8]) -> Result<Front, Memory>
     } else if byte == b'\'' {
         character_front(alloc, place, text)
     } else if byte == b'"' {
-        string_front(alloc, place, text)
+        string_front(alloc, place, text, endless)
     } else if byte == b'#' {
         Ok(Front::Piece(Piece::Hash(place), 1))
     } else {
@@ -172,12 +207,16 @@ fn character_front(alloc: Global, place: Place, text: &[u8]) -> Result<Front, Me
     }
 }
 
-/// What a text begins with whose first byte is a `"`.
-fn string_front(alloc: Global, place: Place, text: &[u8]) -> Result<Front, Memory>
+/// What a text begins with whose first byte is a `"`, which is known not to be closed on its line where `endless` is true.
+fn string_front(alloc: Global, place: Place, text: &[u8], endless: bool) -> Result<Front, Memory>
     requires some { 1 ≤ length text.now }
     requires column { place.column + length text.now < 2 ^ 32 }
+    requires endless { IsTrue endless → length_of_string false (drop 1 text.now) ≡ None }
     ensures { IfOk result (λ front. front ≡ front_of_string place text.now (length_of_string false (drop 1 text.now))) }
 {
+    if endless {
+        return Ok(Front::Piece(Piece::BadLiteral(place), 1));
+    }
     match string_length(&text[1..]) {
         Some(behind) => {
             let piece = string_piece(alloc, place, &text[..1 + behind])?;

@@ -2,6 +2,9 @@ use Rattle.std.proofs.Common.{◌≡◌, ℕ, ◌+◌, ◌-◌, take, length, Li
 use Rattle.c_scan.specs.declared.piece.Piece.{Piece}
 use Rattle.c_scan.specs.declared.piece.Front.TheVariants as front
 use Rattle.c_scan.specs.Pieces.{after, front_of, cut_of, cut_from}
+use borrow.Author.Tests.{ltb-true}
+use Rattle.c_scan.specs.Lengths.{AreEndless}
+use Rattle.c_scan.proofs.Endless.{endless_here}
 use Rattle.c_scan.proofs.Longest.{front_of-is}
 use Rattle.c_scan.proofs.Scanning.{joined, rest-cons, slice-cons, after-near, scan_inside, scan_blank, scan_piece, scan_unclosed}
 use Rattle.c_scan.proofs.scanner.cut.Goals as goal
@@ -42,5 +45,17 @@ loop-index-preserved c =
           let items : c.if-inside-gt0.pieces.items ≡ pieces ++ w.in-Piece.piece ∷ [] = ap (λ v. v.items) w.pieces-is ∙ w.in_ok-push-in-Piece.ensures.items in
           rw (items, w.inside-is, w.saturating_sub-inside-in-Piece.ensures) (scan_piece (cut_of text) pieces inside at byte rest w.in-Piece.piece w.in-Piece.count w.if-inside-gt0.false begins so_far)
     ] in
+    let known : AreEndless text (c.loop-index.index + 1) c.if-inside-gt0.endless =
+    elim c.if-inside-gt0.branch [
+      | then-inside-gt0 w ↦ rw w.endless-is (λ at from. c.loop-index.invariant.3 at (omega arith))
+      | else-inside-gt0+in_ok-count+in-Blank w ↦ rw w.endless-is (λ at from. w.endless_from-endless.ensures at (omega arith))
+      | else-inside-gt0+in_ok-count+in-Piece+in_ok-push-in-Piece w ↦ rw w.endless-is (λ at from. w.endless_from-endless.ensures at (omega arith))
+    ] in
     let near = after-near at byte (c.loop-index.index + 1) (c.loop-index.invariant.1, c.loop-index.invariant.2) in
-    (rw c.after-place.ensures scanned, rw c.after-place.ensures near.0, rw c.after-place.ensures near.1)
+    (rw c.after-place.ensures scanned, rw c.after-place.ensures near.0, rw c.after-place.ensures near.1, known)
+
+pub endless_from-endless-requires-clause-known : goal.endless_from-endless-requires-clause-known
+endless_from-endless-requires-clause-known c = c.loop-index.invariant.3
+
+pub front_of-requires-clause-endless : goal.front_of-requires-clause-endless
+front_of-requires-clause-endless c = λ before. endless_here c.args.text.now c.loop-index.index c.endless_from-endless.result (ltb-true _ _ before) c.endless_from-endless.ensures

@@ -1,12 +1,10 @@
 ghost use Rattle.std.specs.Prelude.{◌<◌, ◌^◌, length};
 
-use super::*;
-use crate::tests::table::{ROWS, TEXTS};
+use crate::table::{ROWS, TEXTS};
+use c_lex::{LexFault, LexKind, tokens};
 use c_tree::{Place, Token, TokenKind};
 use std::alloc::Global;
 use std::test::Fail;
-
-mod table;
 
 /// A token in print.
 fn printed_token(alloc: Global, token: &Token) -> Result<String, Fail> {
@@ -110,5 +108,70 @@ fn more_than_2_to_the_20_tokens_are_too_many(rt: HostRuntime) -> Result<(), Fail
         },
     };
     assert!(rt; tokens(alloc, more.as_bytes()).err() == Some(fault));
+    Ok(())
+}
+
+/// The text `first`, and after it `part` as often as it fits into 2^20 bytes.
+fn long_text(alloc: Global, first: &str, part: &str) -> Result<String, Fail> {
+    let mut text = String::from_str(alloc, first)?;
+    let times = (0x10_0000usize.saturating_sub(first.len()))
+        .checked_div(part.len())
+        .unwrap_or(0);
+    for _ in 0..times {
+        text.push_str(part)?;
+    }
+    Ok(text)
+}
+
+#[test]
+fn the_longest_source_is_scanned_once(rt: HostRuntime) -> Result<(), Fail> {
+    let alloc = rt.alloc();
+    for (first, part, kind, column) in [
+        // no string ends on the line, wherever it begins
+        ("\"", "\\\"", LexKind::BadLiteral, 1),
+        ("a\"", "\\\"", LexKind::BadLiteral, 2),
+        ("", "'", LexKind::BadLiteral, 1),
+        // each third opening closes a comment, and leaves a mark; the last comment stays open
+        ("", "/*", LexKind::OpenComment, 1_048_573),
+    ] {
+        let text = long_text(alloc, first, part)?;
+        assert!(rt; text.len() < 0x20_0000);
+        let found = tokens(alloc, text.as_bytes()).err();
+        let place = Place { line: 1, column };
+        let expected = Some(LexFault { kind, place });
+        assert!(rt; found == expected, "{first}{part}");
+    }
+    Ok(())
+}
+
+/// Macros of which each is twice the one before, up to 2^17 tokens, and `count` uses of the last.
+fn nested_uses(alloc: Global, count: u32) -> Result<String, Fail> {
+    let mut text = String::from_str(alloc, "#define A0 ;\n")?;
+    for number in 1..=17u32 {
+        let below = number.saturating_sub(1);
+        text.push_str(format!(in alloc; "#define A{number} A{below} A{below}\n")?.as_str())?;
+    }
+    for _ in 0..count {
+        text.push_str("A17 ")?;
+    }
+    Ok(text)
+}
+
+#[test]
+fn nested_macros_are_replaced_up_to_the_limit(rt: HostRuntime) -> Result<(), Fail> {
+    let alloc = rt.alloc();
+    // the lists have 2^18 - 1 tokens, and each use 2^17
+    let most = nested_uses(alloc, 6)?;
+    assert!(rt; most.len() < 10000);
+    let found = tokens(alloc, most.as_bytes()).ok();
+    assert_eq!(rt; found.map(|found| found.as_slice().len()), Some(786_433));
+    let more = nested_uses(alloc, 7)?;
+    assert!(rt; more.len() < 10000);
+    let place = Place {
+        line: 19,
+        column: 25,
+    };
+    let kind = LexKind::Tokens;
+    assert!(rt; tokens(alloc, more.as_bytes()).err() == Some(LexFault { kind, place }));
     Ok(())
 }

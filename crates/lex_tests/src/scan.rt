@@ -1,4 +1,4 @@
-use super::*;
+use c_scan::{Piece, Scan, scan};
 use std::test::Fail;
 
 #[test]
