@@ -1,26 +1,26 @@
 -- The readers of simple statements, initialisers and parameters where what they look at is known.
 use Rattle.std.proofs.Common.{◌≡◌, ◌<◌, ◌-◌, ℕ, suc, Bool, true, false, Option, Some, None, if◌then◌else◌, List, Result, refl, sym, ap, subst, ◌∙◌, arith, codes}
-use Rattle.c_tree.specs.Grammar.{is_call}
+use Rattle.c_tree.specs.Folds.{is_call}
 use Rattle.c_tree.specs.declared.token.Place.{Place}
 use Rattle.c_tree.specs.declared.token.Token.{Token}
 use Rattle.c_tree.specs.declared.expressions.Expr.{Expr}
-use Rattle.c_tree.specs.declared.expressions.Specs.{Specs}
+use Rattle.c_tree.specs.declared.expressions.Specifiers.{Specifiers}
 use Rattle.c_tree.specs.declared.programs.Parameters.TheVariants as parameters
-use Rattle.c_tree.specs.declared.statements.Init.{Init}
-use Rattle.c_tree.specs.declared.statements.Init.TheVariants as init
-use Rattle.c_tree.specs.declared.statements.Simple.{Simple}
-use Rattle.c_tree.specs.declared.statements.Simple.TheVariants as simple
-use Rattle.c_expr.specs.declared.unread.Unread.{Unread}
+use Rattle.c_tree.specs.declared.statements.Initializer.{Initializer}
+use Rattle.c_tree.specs.declared.statements.Initializer.TheVariants as init
+use Rattle.c_tree.specs.declared.statements.ExpressionStatement.{ExpressionStatement}
+use Rattle.c_tree.specs.declared.statements.ExpressionStatement.TheVariants as simple
+use Rattle.c_reader.specs.declared.unread.Unread.{Unread}
 use Rattle.c_expr.specs.Levels.{readers_at}
-use Rattle.c_expr.specs.Outcome.{Gives, sees}
-use Rattle.c_expr.specs.Reading.{Answer, good, deep, Reader, ◌>>=◌, after, give, choose}
-use Rattle.c_expr.specs.Tokens.{is_mark}
-use Rattle.c_expr.proofs.Gathering.{choose_sees}
+use Rattle.c_reader.specs.Outcome.{Gives, sees}
+use Rattle.c_reader.specs.Reading.{Answer, good, deep, Reader, ◌>>=◌, after, give, choose}
+use Rattle.c_reader.specs.Tokens.{is_mark}
+use Rattle.c_reader.proofs.Gathering.{choose_sees}
 use Rattle.c_decl.specs.Bare.{void_of}
 use Rattle.c_decl.specs.Marks.{is_assign, is_step}
-use Rattle.c_decl.specs.Objects.{read_list, read_init}
+use Rattle.c_decl.specs.Declarations.{read_list, read_init}
 use Rattle.c_decl.specs.Parameters.{read_parameters_of, read_parameters_behind, read_parameters}
-use Rattle.c_decl.specs.Simple.{is_postfix, read_assigned, read_stepped, read_simple_behind}
+use Rattle.c_decl.specs.ExpressionStatements.{is_postfix, read_assigned, read_stepped, read_simple_behind}
 
 -- what gives an answer gives one that is the same
 pub gives_as : {A : Type 0} (whole answer : Answer A) (r : Result A Unread) (new : List Token) → whole ≡ answer → Gives answer r new → Gives whole r new
@@ -35,13 +35,13 @@ passed test read other l see = choose_sees test read other l ∙ ap (λ b. if b 
 -- ---- behind a unary expression
 
 module _ (size left : ℕ) (target : Expr) (l : List Token) where
-  abbrev call_reader : Reader Simple
+  abbrev call_reader : Reader ExpressionStatement
   call_reader = choose is_assign (read_assigned size left target) (choose is_step (read_stepped left target) (give (simple.Call target)))
 
-  abbrev postfix_reader : Reader Simple
+  abbrev postfix_reader : Reader ExpressionStatement
   postfix_reader = choose is_step (read_stepped left target) (read_assigned size left target)
 
-  abbrev behind_by : Bool → Bool → Reader Simple
+  abbrev behind_by : Bool → Bool → Reader ExpressionStatement
   behind_by call postfix = if call then call_reader else (if postfix then postfix_reader else read_assigned size left target)
 
   at : (call postfix : Bool) → is_call target ≡ call → is_postfix target ≡ postfix → read_simple_behind size left target l ≡ behind_by call postfix l
@@ -73,8 +73,8 @@ module _ (size left : ℕ) (target : Expr) (l : List Token) where
 -- ---- initialisers
 
 module _ (size : ℕ) where
-  abbrev value_reader : ℕ → Reader Init
-  value_reader left = (readers_at size left).expr >>= λ value. give (init.Value value)
+  abbrev value_reader : ℕ → Reader Initializer
+  value_reader left = (readers_at size left).expr >>= λ value. give (init.Expression value)
 
   pub no_level : (left : ℕ) (l : List Token) → left ≡ 0 → read_init size left l ≡ deep l
   unfolding read_init
@@ -92,12 +92,12 @@ module _ (size : ℕ) where
   pub braced : (left other inner : ℕ) (l : List Token) → 0 < left → other ≡ size → inner ≡ left - 1 → sees (is_mark (codes "{")) l ≡ true → read_init size left l ≡ read_list other inner (read_init other inner) l
   braced left other inner l some same is see = opened left inner l some is ∙ chosen _ _ _ l see ∙ ap (λ n. read_list n inner (read_init n inner) l) (sym same)
 
-  pub valued : (left : ℕ) (l : List Token) → 0 < left → sees (is_mark (codes "{")) l ≡ false → read_init size left l ≡ after ((readers_at size left).expr l) (λ value. give (init.Value value))
+  pub valued : (left : ℕ) (l : List Token) → 0 < left → sees (is_mark (codes "{")) l ≡ false → read_init size left l ≡ after ((readers_at size left).expr l) (λ value. give (init.Expression value))
   valued left l some none = opened left (left - 1) l some refl ∙ passed _ _ _ l none
 
 -- ---- behind the type of a first parameter
 
-module _ (size left : ℕ) (l mid : List Token) (specs : Specs) (some : sees (is_mark (codes ")")) l ≡ false) (is : (readers_at size left).specs l ≡ good specs mid) where
+module _ (size left : ℕ) (l mid : List Token) (specs : Specifiers) (some : sees (is_mark (codes ")")) l ≡ false) (is : (readers_at size left).specs l ≡ good specs mid) where
   typed : (void : Option Place) → void_of specs ≡ void → read_parameters size left l ≡ read_parameters_behind size left specs void mid
   unfolding read_parameters
   typed void found =

@@ -3,46 +3,47 @@ use Rattle.std.proofs.Common.{◌≡◌, ℕ, ◌+◌, Bool, true, false, List, 
 use Rattle.std.proofs.lemmas.List.{append_assoc, append-nil}
 use Rattle.std.specs.List.{list_all}
 use Rattle.c_tree.specs.Pieces.{Piece, IsWanted, Fits, all_of, name}
-use Rattle.c_tree.specs.Expressions.{Wants, wants_of_dimension}
-use Rattle.c_tree.specs.Grammar.{is_dimension_tree}
-use Rattle.c_tree.specs.Statements.{wants_of_pointer, wants_of_init, wants_of_start, wants_of_declarator, is_start, is_declarator}
+use Rattle.c_tree.specs.Expressions.{Wants}
+use Rattle.c_tree.specs.Folds.{wants_of_dimension, is_dimension_tree}
+use Rattle.c_tree.specs.Declarations.{wants_of_pointer, wants_of_init, wants_of_start, wants_of_declarator, is_start, is_declarator}
 use Rattle.c_tree.specs.declared.token.Place.{Place}
 use Rattle.c_tree.specs.declared.token.Token.{Token}
 use Rattle.c_tree.specs.declared.token.TokenKind.{TokenKind}
 use Rattle.c_tree.specs.declared.token.TokenKind.TheVariants.{Mark, Name}
-use Rattle.c_tree.specs.declared.expressions.Named.{Named}
+use Rattle.c_tree.specs.declared.expressions.Identifier.{Identifier}
 use Rattle.c_tree.specs.declared.expressions.Dimension.{Dimension}
 use Rattle.c_tree.specs.declared.statements.Pointer.{Pointer}
-use Rattle.c_tree.specs.declared.statements.Init.{Init}
-use Rattle.c_tree.specs.declared.statements.Start.{Start}
-use Rattle.c_tree.specs.declared.statements.Declarator.{Declarator}
-use Rattle.c_expr.specs.Reading.{Reader, ◌>>=◌, give}
-use Rattle.c_expr.specs.Tokens.{is_mark, is_spelled, is_kind, goes_by, suffix_by, spelled_by, found_by, found_in}
+use Rattle.c_tree.specs.declared.statements.Initializer.{Initializer}
+use Rattle.c_tree.specs.declared.statements.Initialization.{Initialization}
+use Rattle.c_tree.specs.declared.statements.InitDeclarator.{InitDeclarator}
+use Rattle.c_reader.specs.Reading.{Reader, ◌>>=◌, give}
+use Rattle.c_reader.specs.Tokens.{is_mark, is_spelled, is_kind, spelled_by, found_by, found_in}
+use Rattle.c_expr.specs.Tokens.{goes_by, suffix_by}
 use Rattle.c_expr.specs.Levels.{readers_at}
-use Rattle.c_expr.proofs.Reader.{Language, Of, Reads}
-use Rattle.c_expr.proofs.Binding.{Both, bind_reads}
-use Rattle.c_expr.proofs.Giving.{Given, give_reads, reads_as}
-use Rattle.c_expr.proofs.Taking.{Single}
-use Rattle.c_expr.proofs.Choosing.{FirstIs, Either, this, that, choose_reads}
-use Rattle.c_expr.proofs.Repeating.{given_stops}
-use Rattle.c_expr.proofs.Beginning.{Begins, begins_both, begins_single, SomeOf, some_both, some_single, some_given}
-use Rattle.c_expr.proofs.Joining.{in_both, in_single, in_given, onto, join2}
-use Rattle.c_expr.proofs.Listing.{AllOf}
-use Rattle.c_expr.proofs.Spelt.{by_text, spelt_at, named, named_reads}
+use Rattle.c_reader.proofs.Reader.{Language, Of, Reads}
+use Rattle.c_reader.proofs.Binding.{Both, bind_reads}
+use Rattle.c_reader.proofs.Giving.{Given, give_reads, reads_as}
+use Rattle.c_reader.proofs.Taking.{Single}
+use Rattle.c_reader.proofs.Choosing.{FirstIs, Either, this, that, choose_reads}
+use Rattle.c_reader.proofs.Repeating.{given_stops}
+use Rattle.c_reader.proofs.Beginning.{Begins, begins_both, begins_single, SomeOf, some_both, some_single, some_given}
+use Rattle.c_reader.proofs.Joining.{in_both, in_single, in_given, onto, join2}
+use Rattle.c_reader.proofs.Listing.{AllOf}
+use Rattle.c_reader.proofs.Spelt.{by_text, spelt_at, named, named_reads}
 use Rattle.c_expr.proofs.Suffixes.{Stops, Any, no_name}
 use Rattle.c_expr.proofs.Dimensioning.{StopsDimensions, dimensions_reads}
 use Rattle.c_expr.proofs.Levels.{all_read}
-use Rattle.c_expr.proofs.Truths.{and_left, and_right, and_both}
-use Rattle.c_decl.specs.Objects.{read_init, read_started, read_start, read_declarator_behind, read_declarator}
+use Rattle.c_reader.proofs.Truths.{and_left, and_right, and_both}
+use Rattle.c_decl.specs.Declarations.{read_init, read_started, read_start, read_declarator_behind, read_declarator}
 use Rattle.c_decl.proofs.Ending.{Ends, end_from}
 use Rattle.c_decl.proofs.Refusing.{spelt_at_bind}
 use Rattle.c_decl.proofs.Pointing.{PointerAt, StopsPointer, pointer_goes_by, some_pointer, pointer_reads}
 use Rattle.c_decl.proofs.Initialising.{InitAt, some_init, init_reads}
 
-abbrev pub StartAt : ℕ → Language (Option Start)
+abbrev pub StartAt : ℕ → Language (Option Initialization)
 StartAt n = Of is_start (λ s. wants_of_start s n)
 
-abbrev pub DeclaratorAt : ℕ → Language Declarator
+abbrev pub DeclaratorAt : ℕ → Language InitDeclarator
 DeclaratorAt n = Of is_declarator (λ d. wants_of_declarator d n)
 
 -- a declared object stands before a comma or a semicolon
@@ -50,20 +51,20 @@ abbrev pub StopsDeclarator : List Token → Type 0
 StopsDeclarator = Ends (codes ",") (codes ";")
 
 -- what stands behind a declared name
-abbrev pub wants_behind : Declarator → Wants
+abbrev pub wants_behind : InitDeclarator → Wants
 wants_behind d n = all_of (map wants_of_dimension d.dimensions) n ++ wants_of_start d.start n
 
 -- the declared objects of this pointer and name, with what stands behind the name
-pub record DeclaratorBehind (n : ℕ) (pointer : Option Pointer) (name : Named) (d : Declarator) (pieces : List Piece) : Type 0 where
+pub record DeclaratorBehind (n : ℕ) (pointer : Option Pointer) (name : Identifier) (d : InitDeclarator) (pieces : List Piece) : Type 0 where
   pub pointer_is : d.pointer ≡ pointer
   pub name_is : d.name ≡ name
   pub grammar : is_declarator d ≡ true
   pub wants : pieces ≡ wants_behind d n
 
-abbrev started : Place → Init → Option Start
+abbrev started : Place → Initializer → Option Initialization
 started place value = Some (record { place = place; value = value })
 
-abbrev declared : Option Pointer → Named → List Dimension → Option Start → Declarator
+abbrev declared : Option Pointer → Identifier → List Dimension → Option Initialization → InitDeclarator
 declared pointer name dimensions start = record { pointer = pointer; name = name; dimensions = dimensions; start = start }
 
 end_stops : (ts : List Token) → StopsDeclarator ts → Stops 0 ts
@@ -79,25 +80,25 @@ unfolding spelled_by is_spelled is_kind
 end_is_no_dimension = end_from (codes ",") (codes ";") (spelled_by Mark (codes "[")) false refl refl
 
 -- what a test says of a name, with which something begins
-pub name_begins : {C : Type 0} (n : ℕ) (K : Named → Language C) (by : TokenKind → List ℕ → Bool) (b : Bool) → ((text : List ℕ) → by Name text ≡ b) → Begins (Both (Single (named Name n)) K) (λ w. by w.kind w.text) b
+pub name_begins : {C : Type 0} (n : ℕ) (K : Identifier → Language C) (by : TokenKind → List ℕ → Bool) (b : Bool) → ((text : List ℕ) → by Name text ≡ b) → Begins (Both (Single (named Name n)) K) (λ w. by w.kind w.text) b
 unfolding IsWanted
 name_begins n K by b is = begins_both _ _ (λ w. by w.kind w.text) b (begins_single (named Name n) (λ w. by w.kind w.text) b (λ name w takes. ap (λ k. by k w.text) takes.0.0 ∙ is w.text))
 
 -- a name behind a pointer stops it
-pub name_stops : {C : Type 0} (n : ℕ) (K : Named → Language C) → Begins (Both (Single (named Name n)) K) (λ w. pointer_goes_by w.kind w.text) false
+pub name_stops : {C : Type 0} (n : ℕ) (K : Identifier → Language C) → Begins (Both (Single (named Name n)) K) (λ w. pointer_goes_by w.kind w.text) false
 unfolding pointer_goes_by spelled_by
 name_stops n K = name_begins n K pointer_goes_by false (λ t. refl)
 
 module _ (n : ℕ) where
   -- ---- initialisers behind their marks
 
-  abbrev StartedL : Language (Option Start)
+  abbrev StartedL : Language (Option Initialization)
   StartedL = Both (Single (spelt_at Mark (codes "=") n)) (λ place. Both (InitAt n) (λ value. Given (started place value)))
 
-  abbrev StartL : Language (Option Start)
+  abbrev StartL : Language (Option Initialization)
   StartL = Either StartedL (Given None)
 
-  start_to : (s : Option Start) (ps : List Piece) → StartL s ps → StartAt n s ps
+  start_to : (s : Option Initialization) (ps : List Piece) → StartL s ps → StartAt n s ps
   unfolding is_start wants_of_start
   start_to s ps (this b) =
       record {
@@ -106,7 +107,7 @@ module _ (n : ℕ) where
       }
   start_to s ps (that g) = record { grammar = ap is_start g.tree_is; wants = g.none ∙ ap (λ u. wants_of_start u n) (sym g.tree_is) }
 
-  start_from : (s : Option Start) (ps : List Piece) → StartAt n s ps → StartL s ps
+  start_from : (s : Option Initialization) (ps : List Piece) → StartAt n s ps → StartL s ps
   unfolding is_start wants_of_start
   start_from None ps is = that (record { tree_is = refl; none = is.wants })
   start_from (Some s) ps is =
@@ -125,7 +126,7 @@ module _ (n : ℕ) where
   started_begins by b is = begins_both _ _ (λ w. by w.kind w.text) b (begins_single (spelt_at Mark (codes "=") n) (λ w. by w.kind w.text) b (λ place w takes. by_text by Mark (codes "=") b w takes.0.0 takes.0.1 is))
 
   -- no bracket of a dimension stands where an initialiser may
-  start_stops : (s : Option Start) (ps : List Piece) (ys rest : List Token) → StartL s ps → Fits ps ys → StopsDeclarator rest → StopsDimensions (ys ++ rest)
+  start_stops : (s : Option Initialization) (ps : List Piece) (ys rest : List Token) → StartL s ps → Fits ps ys → StopsDeclarator rest → StopsDimensions (ys ++ rest)
   unfolding spelled_by is_spelled is_kind
   start_stops s ps ys rest (this b) fits stop = started_begins (spelled_by Mark (codes "[")) false refl s ps ys rest b fits
   start_stops s ps ys rest (that g) fits stop = given_stops None s ps ys rest StopsDimensions g fits (end_is_no_dimension rest stop)
@@ -135,13 +136,13 @@ module _ (n : ℕ) where
   abbrev DimensionsAt : Language (List Dimension)
   DimensionsAt = AllOf is_dimension_tree wants_of_dimension n
 
-  abbrev AfterL : Option Pointer → Named → List Dimension → Language Declarator
+  abbrev AfterL : Option Pointer → Identifier → List Dimension → Language InitDeclarator
   AfterL pointer name dimensions = Both (StartAt n) (λ start. Given (declared pointer name dimensions start))
 
-  abbrev BehindL : Option Pointer → Named → Language Declarator
+  abbrev BehindL : Option Pointer → Identifier → Language InitDeclarator
   BehindL pointer name = Both DimensionsAt (AfterL pointer name)
 
-  behind_to : (pointer : Option Pointer) (name : Named) (d : Declarator) (ps : List Piece) → BehindL pointer name d ps → DeclaratorBehind n pointer name d ps
+  behind_to : (pointer : Option Pointer) (name : Identifier) (d : InitDeclarator) (ps : List Piece) → BehindL pointer name d ps → DeclaratorBehind n pointer name d ps
   unfolding is_declarator
   behind_to pointer name d ps b =
       let is : d ≡ declared pointer name b.first b.right.first = b.right.right.tree_is in
@@ -152,49 +153,49 @@ module _ (n : ℕ) where
         wants = onto b.whole b.left.wants (onto b.right.whole b.right.left.wants b.right.right.none) ∙ join2 (all_of (map wants_of_dimension b.first) n) (wants_of_start b.right.first n) ∙ ap (λ u. wants_behind u n) (sym is);
       }
 
-  behind_own : (d : Declarator) (ps : List Piece) → is_declarator d ≡ true → ps ≡ wants_behind d n → BehindL d.pointer d.name d ps
+  behind_own : (d : InitDeclarator) (ps : List Piece) → is_declarator d ≡ true → ps ≡ wants_behind d n → BehindL d.pointer d.name d ps
   unfolding is_declarator
   behind_own d ps grammar wants =
       subst (λ u. BehindL d.pointer d.name d u) (join2 (all_of (map wants_of_dimension d.dimensions) n) (wants_of_start d.start n) ∙ sym wants)
       (in_both _ _ _ _ _ d.dimensions (record { grammar = and_left (list_all is_dimension_tree d.dimensions) (is_start d.start) grammar; wants = refl })
       (in_both _ _ _ _ _ d.start (record { grammar = and_right (list_all is_dimension_tree d.dimensions) (is_start d.start) grammar; wants = refl }) (in_given d)))
 
-  behind_from : (pointer : Option Pointer) (name : Named) (d : Declarator) (ps : List Piece) → DeclaratorBehind n pointer name d ps → BehindL pointer name d ps
+  behind_from : (pointer : Option Pointer) (name : Identifier) (d : InitDeclarator) (ps : List Piece) → DeclaratorBehind n pointer name d ps → BehindL pointer name d ps
   behind_from pointer name d ps is =
       subst (λ u. BehindL u name d ps) is.pointer_is (subst (λ u. BehindL d.pointer u d ps) is.name_is (behind_own d ps is.grammar is.wants))
 
-  some_after : (pointer : Option Pointer) (name : Named) (dimensions : List Dimension) → SomeOf (AfterL pointer name dimensions)
+  some_after : (pointer : Option Pointer) (name : Identifier) (dimensions : List Dimension) → SomeOf (AfterL pointer name dimensions)
   some_after pointer name dimensions = some_both _ _ some_start (λ start. some_given (declared pointer name dimensions start))
 
   some_dimensions : SomeOf DimensionsAt
   unfolding all_of
   some_dimensions = ([], ([], record { grammar = refl; wants = refl }))
 
-  pub some_declarator_behind : (pointer : Option Pointer) (name : Named) → SomeOf (DeclaratorBehind n pointer name)
+  pub some_declarator_behind : (pointer : Option Pointer) (name : Identifier) → SomeOf (DeclaratorBehind n pointer name)
   some_declarator_behind pointer name =
       let x = some_both DimensionsAt (AfterL pointer name) some_dimensions (some_after pointer name) in
       (x.0, (x.1.0, behind_to pointer name x.0 x.1.0 x.1.1))
 
-  after_stops : (pointer : Option Pointer) (name : Named) (dimensions : List Dimension) (d : Declarator) (qs : List Piece) (ys rest : List Token) → AfterL pointer name dimensions d qs → Fits qs ys → StopsDeclarator rest → StopsDimensions (ys ++ rest)
+  after_stops : (pointer : Option Pointer) (name : Identifier) (dimensions : List Dimension) (d : InitDeclarator) (qs : List Piece) (ys rest : List Token) → AfterL pointer name dimensions d qs → Fits qs ys → StopsDeclarator rest → StopsDimensions (ys ++ rest)
   after_stops pointer name dimensions d qs ys rest b fits stop =
       let e : qs ≡ b.pieces1 = onto b.whole refl b.right.none ∙ append-nil b.pieces1 in
       start_stops b.first b.pieces1 ys rest (start_from b.first b.pieces1 b.left) (subst (λ u. Fits u ys) e fits) stop
 
   -- ---- whole declared objects
 
-  abbrev NamedL : Option Pointer → Language Declarator
+  abbrev NamedL : Option Pointer → Language InitDeclarator
   NamedL pointer = Both (Single (named Name n)) (λ name. DeclaratorBehind n pointer name)
 
-  abbrev DeclaratorL : Language Declarator
+  abbrev DeclaratorL : Language InitDeclarator
   DeclaratorL = Both (PointerAt n) NamedL
 
   -- a declared object is a pointer, a name and what stands behind it
-  pub declarator_flat : (d : Declarator) → wants_of_pointer d.pointer n ++ (name d.name n ++ wants_behind d n) ≡ wants_of_declarator d n
+  pub declarator_flat : (d : InitDeclarator) → wants_of_pointer d.pointer n ++ (name d.name n ++ wants_behind d n) ≡ wants_of_declarator d n
   unfolding wants_of_declarator
   declarator_flat d =
       sym (append_assoc (wants_of_pointer d.pointer n) (name d.name n) (wants_behind d n)) ∙ sym (append_assoc (wants_of_pointer d.pointer n ++ name d.name n) (all_of (map wants_of_dimension d.dimensions) n) (wants_of_start d.start n))
 
-  declarator_to : (d : Declarator) (ps : List Piece) → DeclaratorL d ps → DeclaratorAt n d ps
+  declarator_to : (d : InitDeclarator) (ps : List Piece) → DeclaratorL d ps → DeclaratorAt n d ps
   declarator_to d ps b =
       let behind = b.right.right in
       record {
@@ -202,7 +203,7 @@ module _ (n : ℕ) where
         wants = onto b.whole (b.left.wants ∙ ap (λ u. wants_of_pointer u n) (sym behind.pointer_is)) (onto b.right.whole (b.right.left.one ∙ ap (λ u. name u n) (sym behind.name_is)) behind.wants) ∙ declarator_flat d;
       }
 
-  declarator_from : (d : Declarator) (ps : List Piece) → DeclaratorAt n d ps → DeclaratorL d ps
+  declarator_from : (d : InitDeclarator) (ps : List Piece) → DeclaratorAt n d ps → DeclaratorL d ps
   declarator_from d ps is =
       subst (λ u. DeclaratorL d u) (declarator_flat d ∙ sym is.wants)
       (in_both _ _ _ _ _ d.pointer (record { grammar = refl; wants = refl })
@@ -219,7 +220,7 @@ module _ (n : ℕ) where
 -- ---- the readers
 
 module _ (most size n left : ℕ) (level : n + left ≡ most + 1) where
-  abbrev started_reader : Place → Reader (Option Start)
+  abbrev started_reader : Place → Reader (Option Initialization)
   started_reader place = read_init size left >>= λ value. give (started place value)
 
   started_read : Reads (StartedL n) most size StopsDeclarator (read_started size left)
@@ -238,7 +239,7 @@ module _ (most size n left : ℕ) (level : n + left ≡ most + 1) where
       (λ s ps front rest is fits stop. started_begins n (spelled_by Mark (codes "=")) true refl s ps front rest is fits)
       (λ s ps front rest is fits stop. given_stops None s ps front rest (FirstIs (is_mark (codes "=")) false) is fits (end_is_no_equals rest stop)))
 
-  pub declarator_behind_reads : (pointer : Option Pointer) (name : Named) → Reads (DeclaratorBehind n pointer name) most size StopsDeclarator (read_declarator_behind size left pointer name)
+  pub declarator_behind_reads : (pointer : Option Pointer) (name : Identifier) → Reads (DeclaratorBehind n pointer name) most size StopsDeclarator (read_declarator_behind size left pointer name)
   unfolding read_declarator_behind
   declarator_behind_reads pointer name =
       reads_as (behind_to n pointer name) (behind_from n pointer name)

@@ -3,10 +3,10 @@ use Rattle.std.proofs.Common.{◌≡◌, ◌⊎◌, inl, inr, ℕ, Bool, true, �
 use Rattle.c_tree.specs.declared.token.Token.{Token}
 use Rattle.c_tree.specs.declared.token.TokenKind.{TokenKind}
 use Rattle.c_tree.specs.declared.token.TokenKind.TheVariants.{Mark}
-use Rattle.c_expr.specs.Tokens.{is_mark}
-use Rattle.c_expr.proofs.Choosing.{FirstIs}
-use Rattle.c_expr.proofs.Spelt.{by_text, spelled_is}
-use Rattle.c_expr.proofs.Truths.{or_cases}
+use Rattle.c_reader.specs.Tokens.{is_mark}
+use Rattle.c_reader.proofs.Choosing.{FirstIs}
+use Rattle.c_reader.proofs.Spelt.{by_text, spelled_is}
+use Rattle.c_reader.proofs.Truths.{or_cases}
 
 -- the next token is one of two marks
 abbrev pub Ends : List ℕ → List ℕ → List Token → Type 0

@@ -5,20 +5,20 @@ use Rattle.std.specs.List.{list_all}
 use Rattle.c_tree.specs.Pieces.{Piece, IsWanted, Fits}
 use Rattle.c_tree.specs.declared.token.Token.{Token}
 use Rattle.c_tree.specs.declared.token.TokenKind.TheVariants.{Mark}
-use Rattle.c_expr.specs.Reading.{Reader, ◌>>=◌, many}
-use Rattle.c_expr.specs.Tokens.{is_mark, read_mark}
-use Rattle.c_expr.proofs.Reader.{Language, Of, Reads}
-use Rattle.c_expr.proofs.Binding.{Both, bind_reads}
-use Rattle.c_expr.proofs.Giving.{Given, reads_as}
-use Rattle.c_expr.proofs.Taking.{Single}
-use Rattle.c_expr.proofs.Choosing.{FirstIs}
-use Rattle.c_expr.proofs.Repeating.{Several, many_reads, several_stops}
-use Rattle.c_expr.proofs.Beginning.{Begins, begins_both, begins_single, SomeOf}
-use Rattle.c_expr.proofs.Joining.{in_both, in_single, onto}
-use Rattle.c_expr.proofs.Listing.{separated_rest}
-use Rattle.c_expr.proofs.Spelt.{spelt, spelt_reads, spelled_yes}
+use Rattle.c_reader.specs.Reading.{Reader, ◌>>=◌, many}
+use Rattle.c_reader.specs.Tokens.{is_mark, read_mark}
+use Rattle.c_reader.proofs.Reader.{Language, Of, Reads}
+use Rattle.c_reader.proofs.Binding.{Both, bind_reads}
+use Rattle.c_reader.proofs.Giving.{Given, reads_as}
+use Rattle.c_reader.proofs.Taking.{Single}
+use Rattle.c_reader.proofs.Choosing.{FirstIs}
+use Rattle.c_reader.proofs.Repeating.{Several, many_reads, several_stops}
+use Rattle.c_reader.proofs.Beginning.{Begins, begins_both, begins_single, SomeOf}
+use Rattle.c_reader.proofs.Joining.{in_both, in_single, onto}
+use Rattle.c_reader.proofs.Listing.{separated_rest}
+use Rattle.c_reader.proofs.Spelt.{spelt, spelt_reads, spelled_yes}
 use Rattle.c_expr.proofs.Suffixes.{Any}
-use Rattle.c_expr.proofs.Truths.{and_left, and_right, and_both}
+use Rattle.c_reader.proofs.Truths.{and_left, and_right, and_both}
 
 module _ {A : Type 0} (ok : A → Bool) (f : A → ℕ → List Piece) (n : ℕ) (text : List ℕ) where
   -- the parts but the first, each with a mark before it

@@ -1,30 +1,32 @@
 -- Initialisers by their outermost layer: their cases, what they want, and which are of the grammar.
 use Rattle.std.proofs.Common.{◌≡◌, Bool, List, map, sym, ap, ◌∙◌, subst}
 use Rattle.c_tree.specs.Expressions.{Wants}
-use Rattle.c_tree.specs.Statements.{init_wants, wants_of_init, init_is, is_init}
+use Rattle.c_tree.specs.Declarations.{init_wants, wants_of_init, init_is, is_init}
 use Rattle.c_tree.specs.declared.token.Place.{Place}
 use Rattle.c_tree.specs.declared.expressions.Expr.{Expr}
-use Rattle.c_tree.specs.declared.statements.Init.{Init}
-use Rattle.c_tree.specs.declared.statements.Init.TheVariants as init
-use Rattle.c_tree.specs.declared.statements.Init.TheOpen.{Init-F}
-use Rattle.c_tree.specs.declared.statements.Init.TheFolds.{fold-roll-Init}
-use Rattle.c_tree.specs.declared.statements.Init.TheViews.{roll-Init, out-Init, roll-out-Init}
+use Rattle.c_tree.specs.declared.expressions.TrailingComma.{TrailingComma}
+use Rattle.c_tree.specs.declared.expressions.TrailingComma.TheVariants.{Absent, Present}
+use Rattle.c_tree.specs.declared.statements.Initializer.{Initializer}
+use Rattle.c_tree.specs.declared.statements.Initializer.TheVariants as init
+use Rattle.c_tree.specs.declared.statements.Initializer.TheOpen.{Initializer-F}
+use Rattle.c_tree.specs.declared.statements.Initializer.TheFolds.{fold-roll-Initializer}
+use Rattle.c_tree.specs.declared.statements.Initializer.TheViews.{roll-Initializer, out-Initializer, roll-out-Initializer}
 
-layer_Init : (P : Init → Type 0) → ((value : Expr) → P (init.Value value)) → ((place : Place) (parts : List Init) (comma : Bool) → P (init.List place parts comma)) → (layer : Init-F Init) → P (roll-Init layer)
-layer_Init P of-Value of-List (Init-F.Value value) = subst P (sym (init.rolls-Value value)) (of-Value value)
-layer_Init P of-Value of-List (Init-F.List place parts comma) = subst P (sym (init.rolls-List place parts comma)) (of-List place parts comma)
+layer_Initializer : (P : Initializer → Type 0) → ((value : Expr) → P (init.Expression value)) → ((place : Place) (parts : List Initializer) (comma : TrailingComma) → P (init.List place parts comma)) → (layer : Initializer-F Initializer) → P (roll-Initializer layer)
+layer_Initializer P of-Value of-List (Initializer-F.Expression value) = subst P (sym (init.rolls-Expression value)) (of-Value value)
+layer_Initializer P of-Value of-List (Initializer-F.List place parts comma) = subst P (sym (init.rolls-List place parts comma)) (of-List place parts comma)
 
-pub cases_Init : (P : Init → Type 0) → ((value : Expr) → P (init.Value value)) → ((place : Place) (parts : List Init) (comma : Bool) → P (init.List place parts comma)) → (tree : Init) → P tree
-cases_Init P of-Value of-List tree = subst P (roll-out-Init tree) (layer_Init P of-Value of-List (out-Init tree))
+pub cases_Initializer : (P : Initializer → Type 0) → ((value : Expr) → P (init.Expression value)) → ((place : Place) (parts : List Initializer) (comma : TrailingComma) → P (init.List place parts comma)) → (tree : Initializer) → P tree
+cases_Initializer P of-Value of-List tree = subst P (roll-out-Initializer tree) (layer_Initializer P of-Value of-List (out-Initializer tree))
 
-pub wants_Init_Value : (value : Expr) → wants_of_init (init.Value value) ≡ init_wants (Init-F.Value value)
-wants_Init_Value value = ap wants_of_init (sym (init.rolls-Value value)) ∙ fold-roll-Init Wants init_wants (Init-F.Value value)
+pub wants_Initializer_Expression : (value : Expr) → wants_of_init (init.Expression value) ≡ init_wants (Initializer-F.Expression value)
+wants_Initializer_Expression value = ap wants_of_init (sym (init.rolls-Expression value)) ∙ fold-roll-Initializer Wants init_wants (Initializer-F.Expression value)
 
-pub wants_Init_List : (place : Place) (parts : List Init) (comma : Bool) → wants_of_init (init.List place parts comma) ≡ init_wants (Init-F.List place (map wants_of_init parts) comma)
-wants_Init_List place parts comma = ap wants_of_init (sym (init.rolls-List place parts comma)) ∙ fold-roll-Init Wants init_wants (Init-F.List place parts comma)
+pub wants_Initializer_List : (place : Place) (parts : List Initializer) (comma : TrailingComma) → wants_of_init (init.List place parts comma) ≡ init_wants (Initializer-F.List place (map wants_of_init parts) comma)
+wants_Initializer_List place parts comma = ap wants_of_init (sym (init.rolls-List place parts comma)) ∙ fold-roll-Initializer Wants init_wants (Initializer-F.List place parts comma)
 
-pub is_Init_Value : (value : Expr) → is_init (init.Value value) ≡ init_is (Init-F.Value value)
-is_Init_Value value = ap is_init (sym (init.rolls-Value value)) ∙ fold-roll-Init Bool init_is (Init-F.Value value)
+pub is_Initializer_Expression : (value : Expr) → is_init (init.Expression value) ≡ init_is (Initializer-F.Expression value)
+is_Initializer_Expression value = ap is_init (sym (init.rolls-Expression value)) ∙ fold-roll-Initializer Bool init_is (Initializer-F.Expression value)
 
-pub is_Init_List : (place : Place) (parts : List Init) (comma : Bool) → is_init (init.List place parts comma) ≡ init_is (Init-F.List place (map is_init parts) comma)
-is_Init_List place parts comma = ap is_init (sym (init.rolls-List place parts comma)) ∙ fold-roll-Init Bool init_is (Init-F.List place parts comma)
+pub is_Initializer_List : (place : Place) (parts : List Initializer) (comma : TrailingComma) → is_init (init.List place parts comma) ≡ init_is (Initializer-F.List place (map is_init parts) comma)
+is_Initializer_List place parts comma = ap is_init (sym (init.rolls-List place parts comma)) ∙ fold-roll-Initializer Bool init_is (Initializer-F.List place parts comma)

@@ -8,10 +8,10 @@ pub mod Initial
 pub mod Initialising
 pub mod Marking
 pub mod Marks
-pub mod Objects
+pub mod Declarations
 pub mod Oneness
 pub mod Parameters
 pub mod Pointing
 pub mod Refusing
-pub mod Simple
+pub mod ExpressionStatements
 pub mod Sizing

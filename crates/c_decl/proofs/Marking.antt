@@ -2,14 +2,14 @@
 use Rattle.std.proofs.Common.{◌≡◌, ◌<◌, ℕ, zero, suc, Bool, true, false, Option, Some, None, is_some, unwrap_or, if◌then◌else◌, List, [], ◌∷◌, refl, ap, arith}
 use Rattle.c_tree.specs.declared.token.Token.{Token}
 use Rattle.c_tree.specs.declared.token.TokenKind.TheVariants.{Mark}
-use Rattle.c_tree.specs.declared.statements.Assign.{Assign}
-use Rattle.c_tree.specs.declared.statements.Assign.TheVariants as assign
+use Rattle.c_tree.specs.declared.statements.AssignmentOperator.{AssignmentOperator}
+use Rattle.c_tree.specs.declared.statements.AssignmentOperator.TheVariants as assign
 use Rattle.c_tree.specs.declared.statements.Step.{Step}
 use Rattle.c_tree.specs.declared.statements.Step.TheVariants as step
-use Rattle.c_expr.specs.Outcome.{is_end}
-use Rattle.c_expr.specs.Reading.{good, take_as, taken}
-use Rattle.c_expr.specs.Tokens.{is_kind, found_in, found_of}
-use Rattle.c_expr.proofs.Tokening.{kind_only}
+use Rattle.c_reader.specs.Outcome.{is_end}
+use Rattle.c_reader.specs.Reading.{good, take_as, taken}
+use Rattle.c_reader.specs.Tokens.{is_kind, found_in, found_of}
+use Rattle.c_reader.proofs.Tokening.{kind_only}
 use Rattle.c_decl.specs.Marks.{assigns, assign_of, is_assign, assign_at, steps, step_of, is_step, step_at}
 
 of_some : {A : Type 0} (b : Bool) (o : Option A) → is_some (if b then o else None) ≡ true → b ≡ true
@@ -28,7 +28,7 @@ pub step_only : (t : Token) → is_step t ≡ true → is_end t ≡ false
 unfolding step_of
 step_only t e = found_only steps t e
 
-pub assign_at_is : (t : Token) (v : Assign) → assign_of t ≡ Some v → assign_at t ≡ (t.place, v)
+pub assign_at_is : (t : Token) (v : AssignmentOperator) → assign_of t ≡ Some v → assign_at t ≡ (t.place, v)
 assign_at_is t v e = ap (λ o. (t.place, unwrap_or o assign.Plain)) e
 
 pub step_at_is : (t : Token) (v : Step) → step_of t ≡ Some v → step_at t ≡ (t.place, v)

@@ -6,26 +6,26 @@ use Rattle.c_tree.specs.declared.token.Place.{Place}
 use Rattle.c_tree.specs.declared.token.Token.{Token}
 use Rattle.c_tree.specs.declared.token.TokenKind.{TokenKind}
 use Rattle.c_tree.specs.declared.token.TokenKind.TheVariants.{Mark}
-use Rattle.c_tree.specs.declared.statements.Assign.{Assign}
-use Rattle.c_tree.specs.declared.statements.Assign.TheVariants as assign
+use Rattle.c_tree.specs.declared.statements.AssignmentOperator.{AssignmentOperator}
+use Rattle.c_tree.specs.declared.statements.AssignmentOperator.TheVariants as assign
 use Rattle.c_tree.specs.declared.statements.Step.{Step}
 use Rattle.c_tree.specs.declared.statements.Step.TheVariants as step
-use Rattle.c_expr.specs.Reading.{take_as}
-use Rattle.c_expr.specs.Tokens.{found_in}
-use Rattle.c_expr.proofs.Reader.{Reads}
-use Rattle.c_expr.proofs.Taking.{Single, take_reads}
-use Rattle.c_expr.proofs.Beginning.{Begins, begins_single}
-use Rattle.c_expr.proofs.Spelt.{by_text, AreUnder, found_yes, found_is, table_reads}
+use Rattle.c_reader.specs.Reading.{take_as}
+use Rattle.c_reader.specs.Tokens.{found_in}
+use Rattle.c_reader.proofs.Reader.{Reads}
+use Rattle.c_reader.proofs.Taking.{Single, take_reads}
+use Rattle.c_reader.proofs.Beginning.{Begins, begins_single}
+use Rattle.c_reader.proofs.Spelt.{by_text, AreUnder, found_yes, found_is, table_reads}
 use Rattle.c_decl.specs.Marks.{assigns, assign_of, is_assign, assign_at, steps, step_of, is_step, step_at}
 
-abbrev pub assign_piece : ℕ → Place × Assign → Piece
+abbrev pub assign_piece : ℕ → Place × AssignmentOperator → Piece
 assign_piece n found = record { nesting = n; place = Some found.0; want = spelled Mark (text_of_assign found.1) }
 
 abbrev pub step_piece : ℕ → Place × Step → Piece
 step_piece n found = record { nesting = n; place = Some found.0; want = spelled Mark (text_of_step found.1) }
 
 pub assign_all : (test : TokenKind → List ℕ → Bool) (b : Bool) → test Mark (codes "=") ≡ b → test Mark (codes "*=") ≡ b → test Mark (codes "/=") ≡ b → test Mark (codes "%=") ≡ b → test Mark (codes "+=") ≡ b → test Mark (codes "-=") ≡ b
-    → test Mark (codes "<<=") ≡ b → test Mark (codes ">>=") ≡ b → test Mark (codes "&=") ≡ b → test Mark (codes "^=") ≡ b → test Mark (codes "|=") ≡ b → (m : Assign) → test Mark (text_of_assign m) ≡ b
+    → test Mark (codes "<<=") ≡ b → test Mark (codes ">>=") ≡ b → test Mark (codes "&=") ≡ b → test Mark (codes "^=") ≡ b → test Mark (codes "|=") ≡ b → (m : AssignmentOperator) → test Mark (text_of_assign m) ≡ b
 assign_all test b h0 h1 h2 h3 h4 h5 h6 h7 h8 h9 h10 assign.Plain = h0
 assign_all test b h0 h1 h2 h3 h4 h5 h6 h7 h8 h9 h10 assign.Multiply = h1
 assign_all test b h0 h1 h2 h3 h4 h5 h6 h7 h8 h9 h10 assign.Divide = h2
@@ -46,7 +46,7 @@ under_assigns : AreUnder text_of_assign assigns
 unfolding AreUnder
 under_assigns = (refl, (refl, (refl, (refl, (refl, (refl, (refl, (refl, (refl, (refl, (refl, tt)))))))))))
 
-found_assign : (m : Assign) → found_in assigns (text_of_assign m) ≡ Some m
+found_assign : (m : AssignmentOperator) → found_in assigns (text_of_assign m) ≡ Some m
 unfolding found_in
 found_assign assign.Plain = refl
 found_assign assign.Multiply = refl
@@ -89,7 +89,7 @@ pub step_takes : (n : ℕ) (w : Token) → is_step w ≡ true → Takes (step_pi
 unfolding IsWanted StandsAt
 step_takes n w is = (step_some w (step_of w) refl is, refl)
 
-abbrev pub some_assign : Place × Assign
+abbrev pub some_assign : Place × AssignmentOperator
 some_assign = (record { line = 0; column = 0 }, assign.Plain)
 
 abbrev pub some_step : Place × Step
@@ -99,7 +99,7 @@ pub step_reads : (most size : ℕ) (Stops : List Token → Type 0) (n left : ℕ
 step_reads most size Stops n left level = take_reads is_step step_at most size (step_piece n) some_step (step_is n) (step_takes n) left (λ found. level) Stops
 
 -- a test by kind and text has this answer at each of the marks
-pub assign_begins : (n : ℕ) (by : TokenKind → List ℕ → Bool) (b : Bool) → ((m : Assign) → by Mark (text_of_assign m) ≡ b) → Begins (Single (assign_piece n)) (λ w. by w.kind w.text) b
+pub assign_begins : (n : ℕ) (by : TokenKind → List ℕ → Bool) (b : Bool) → ((m : AssignmentOperator) → by Mark (text_of_assign m) ≡ b) → Begins (Single (assign_piece n)) (λ w. by w.kind w.text) b
 unfolding IsWanted
 assign_begins n by b is = begins_single (assign_piece n) (λ w. by w.kind w.text) b (λ found w takes. by_text by Mark (text_of_assign found.1) b w takes.0.0 takes.0.1 (is found.1))
 

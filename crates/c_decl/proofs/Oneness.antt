@@ -3,23 +3,22 @@
 use Rattle.std.proofs.Common.{◌≡◌, ◌≤◌, inl, inr, ℕ, suc, ◌+◌, Bool, true, List, [], ◌∷◌, ◌++◌, length, refl, arith, codes}
 use Rattle.hy_bits.specs.declared.scalar.Scalar.TheVariants as scalar
 use Rattle.c_tree.specs.Pieces.{Piece, Fits}
-use Rattle.c_tree.specs.Statements.{wants_of_simple, wants_of_objects, is_simple, are_objects}
-use Rattle.c_tree.specs.Programs.{wants_of_parameters, are_parameters}
+use Rattle.c_tree.specs.Declarations.{wants_of_simple, wants_of_objects, is_simple, are_objects, wants_of_parameters, are_parameters}
 use Rattle.c_tree.specs.declared.token.Token.{Token}
 use Rattle.c_tree.specs.declared.token.TokenKind.TheVariants.{Mark}
-use Rattle.c_tree.specs.declared.statements.Simple.{Simple}
-use Rattle.c_tree.specs.declared.statements.Objects.{Objects}
+use Rattle.c_tree.specs.declared.statements.ExpressionStatement.{ExpressionStatement}
+use Rattle.c_tree.specs.declared.statements.Declaration.{Declaration}
 use Rattle.c_tree.specs.declared.programs.Parameters.{Parameters}
-use Rattle.c_expr.specs.Reading.{Reader}
-use Rattle.c_expr.specs.Reading as reading
-use Rattle.c_expr.specs.Tokens.{is_spelled, is_kind}
-use Rattle.c_expr.proofs.Reader.{Shallow, Found, Of, Reads}
-use Rattle.c_expr.proofs.Choosing.{FirstIs}
-use Rattle.c_decl.specs.Simple.{read_simple}
-use Rattle.c_decl.specs.Objects.{read_objects}
+use Rattle.c_reader.specs.Reading.{Reader}
+use Rattle.c_reader.specs.Reading as reading
+use Rattle.c_reader.specs.Tokens.{is_spelled, is_kind}
+use Rattle.c_reader.proofs.Reader.{Shallow, Found, Of, Reads}
+use Rattle.c_reader.proofs.Choosing.{FirstIs}
+use Rattle.c_decl.specs.ExpressionStatements.{read_simple}
+use Rattle.c_decl.specs.Declarations.{read_objects}
 use Rattle.c_decl.specs.Parameters.{read_parameters}
-use Rattle.c_decl.proofs.Simple.{StopsSimple, simple_reads}
-use Rattle.c_decl.proofs.Objects.{StopsObjects, objects_reads}
+use Rattle.c_decl.proofs.ExpressionStatements.{StopsSimple, simple_reads}
+use Rattle.c_decl.proofs.Declarations.{StopsObjects, objects_reads}
 use Rattle.c_decl.proofs.Parameters.{StopsParameters, parameters_reads}
 
 deepest : List Piece → ℕ
@@ -57,11 +56,11 @@ one_tree ok f n Behind read R rest stop a b tokens left right fits_left fits_rig
 abbrev ending : List ℕ → Token
 ending text = record { kind = Mark; text = text; number = 0; scalar = scalar.S32; place = record { line = 0; column = 0 } }
 
-pub one_simple : (n : ℕ) (a b : Simple) (tokens : List Token) → is_simple a ≡ true → is_simple b ≡ true → Fits (wants_of_simple a n) tokens → Fits (wants_of_simple b n) tokens → a ≡ b
+pub one_simple : (n : ℕ) (a b : ExpressionStatement) (tokens : List Token) → is_simple a ≡ true → is_simple b ≡ true → Fits (wants_of_simple a n) tokens → Fits (wants_of_simple b n) tokens → a ≡ b
 unfolding FirstIs is_spelled is_kind
 one_simple n = one_tree is_simple wants_of_simple n StopsSimple read_simple (λ most size left level. simple_reads most size n left level) (ending (codes ";") ∷ []) refl
 
-pub one_objects : (n : ℕ) (a b : Objects) (tokens : List Token) → are_objects a ≡ true → are_objects b ≡ true → Fits (wants_of_objects a n) tokens → Fits (wants_of_objects b n) tokens → a ≡ b
+pub one_objects : (n : ℕ) (a b : Declaration) (tokens : List Token) → are_objects a ≡ true → are_objects b ≡ true → Fits (wants_of_objects a n) tokens → Fits (wants_of_objects b n) tokens → a ≡ b
 unfolding FirstIs is_spelled is_kind
 one_objects n = one_tree are_objects wants_of_objects n StopsObjects read_objects (λ most size left level. objects_reads most size n left level) (ending (codes ";") ∷ []) refl
 

@@ -4,41 +4,40 @@ use Rattle.std.proofs.Common.{◌≡◌, ℕ, ◌+◌, Bool, true, false, ◌||�
 use Rattle.std.proofs.lemmas.List.{append-nil}
 use Rattle.std.specs.List.{list_all}
 use Rattle.c_tree.specs.Pieces.{Piece, Fits, all_of, name}
-use Rattle.c_tree.specs.Expressions.{wants_of_specs, wants_of_dimension}
-use Rattle.c_tree.specs.Grammar.{are_specs, is_dimension_tree}
-use Rattle.c_tree.specs.Statements.{wants_of_pointer}
-use Rattle.c_tree.specs.Programs.{wants_of_parameter, wants_of_parameters, is_parameter, are_parameters}
+use Rattle.c_tree.specs.Folds.{wants_of_specs, wants_of_dimension, are_specs, is_dimension_tree}
+use Rattle.c_tree.specs.Declarations.{wants_of_pointer, wants_of_parameter, wants_of_parameters, is_parameter, are_parameters}
 use Rattle.c_tree.specs.declared.token.Place.{Place}
 use Rattle.c_tree.specs.declared.token.Token.{Token}
 use Rattle.c_tree.specs.declared.token.TokenKind.{TokenKind}
 use Rattle.c_tree.specs.declared.token.TokenKind.TheVariants.{Mark, Name}
-use Rattle.c_tree.specs.declared.expressions.Named.{Named}
+use Rattle.c_tree.specs.declared.expressions.Identifier.{Identifier}
 use Rattle.c_tree.specs.declared.expressions.Dimension.{Dimension}
-use Rattle.c_tree.specs.declared.expressions.Specs.{Specs}
+use Rattle.c_tree.specs.declared.expressions.Specifiers.{Specifiers}
 use Rattle.c_tree.specs.declared.statements.Pointer.{Pointer}
 use Rattle.c_tree.specs.declared.programs.Parameter.{Parameter}
 use Rattle.c_tree.specs.declared.programs.Parameters.{Parameters}
 use Rattle.c_tree.specs.declared.programs.Parameters.TheVariants as parameters
-use Rattle.c_expr.specs.Reading.{◌>>=◌, give}
-use Rattle.c_expr.specs.Tokens.{is_mark, is_spelled, is_kind, spelled_by, found_by, found_in, type_goes_by}
+use Rattle.c_reader.specs.Reading.{◌>>=◌, give}
+use Rattle.c_reader.specs.Tokens.{is_mark, is_spelled, is_kind, spelled_by, found_by, found_in}
+use Rattle.c_expr.specs.Tokens.{type_goes_by}
 use Rattle.c_expr.specs.Levels.{readers_at}
-use Rattle.c_expr.proofs.Reader.{Language, Of, Reads}
-use Rattle.c_expr.proofs.Binding.{Both, bind_reads}
-use Rattle.c_expr.proofs.Giving.{Given, give_reads, reads_as}
-use Rattle.c_expr.proofs.Taking.{Single}
-use Rattle.c_expr.proofs.Choosing.{FirstIs, Either, this, that, choose_reads}
-use Rattle.c_expr.proofs.Repeating.{given_stops}
-use Rattle.c_expr.proofs.Beginning.{Begins, begins_both, SomeOf, some_both, some_single, some_given}
-use Rattle.c_expr.proofs.Joining.{in_both, in_single, in_given, onto}
-use Rattle.c_expr.proofs.Listing.{AllOf, separated_rest, separated_is}
-use Rattle.c_expr.proofs.Spelt.{named, named_reads}
+use Rattle.c_reader.proofs.Reader.{Language, Of, Reads}
+use Rattle.c_reader.proofs.Binding.{Both, bind_reads}
+use Rattle.c_reader.proofs.Giving.{Given, give_reads, reads_as}
+use Rattle.c_reader.proofs.Taking.{Single}
+use Rattle.c_reader.proofs.Choosing.{FirstIs, Either, this, that, choose_reads}
+use Rattle.c_reader.proofs.Repeating.{given_stops}
+use Rattle.c_reader.proofs.Beginning.{Begins, begins_both, SomeOf, some_both, some_single, some_given}
+use Rattle.c_reader.proofs.Joining.{in_both, in_single, in_given, onto}
+use Rattle.c_reader.proofs.Listing.{AllOf, separated_rest, separated_is}
+use Rattle.c_reader.proofs.Spelt.{named, named_reads}
 use Rattle.c_expr.proofs.Typing.{SuitsType, begins_type, word_all}
 use Rattle.c_expr.proofs.Suffixes.{SpecsAt, StopsType, Any, no_name}
 use Rattle.c_expr.proofs.Primaries.{first_from}
 use Rattle.c_expr.proofs.Members.{some_specs}
 use Rattle.c_expr.proofs.Dimensioning.{StopsDimensions, dimensions_reads}
 use Rattle.c_expr.proofs.Levels.{all_read}
-use Rattle.c_expr.proofs.Truths.{not_true, and_left, and_right, and_both}
+use Rattle.c_reader.proofs.Truths.{not_true, and_left, and_right, and_both}
 use Rattle.c_decl.specs.Bare.{void_of}
 use Rattle.c_decl.specs.Parameters.{read_parameter_of, read_parameter, read_parameters_of, read_parameters_behind, read_parameters}
 use Rattle.c_decl.proofs.Ending.{Ends, end_from}
@@ -60,7 +59,7 @@ StopsParameter = Ends (codes ",") (codes ")")
 abbrev pub StopsParameters : List Token → Type 0
 StopsParameters = FirstIs (is_mark (codes ")")) true
 
-abbrev declared : Specs → Option Pointer → Named → List Dimension → Parameter
+abbrev declared : Specifiers → Option Pointer → Identifier → List Dimension → Parameter
 declared specs pointer name dimensions = record { specs = specs; pointer = pointer; name = name; dimensions = dimensions }
 
 -- what stands behind the type of a parameter
@@ -68,7 +67,7 @@ abbrev pub wants_untyped : Parameter → ℕ → List Piece
 wants_untyped p n = wants_of_pointer p.pointer n ++ (name p.name n ++ all_of (map wants_of_dimension p.dimensions) n)
 
 -- the parameters of this type, with what stands behind it; whether the type is of the grammar isn't asked here
-pub record ParameterOf (n : ℕ) (specs : Specs) (p : Parameter) (pieces : List Piece) : Type 0 where
+pub record ParameterOf (n : ℕ) (specs : Specifiers) (p : Parameter) (pieces : List Piece) : Type 0 where
   pub specs_is : p.specs ≡ specs
   pub grammar : list_all is_dimension_tree p.dimensions ≡ true
   pub wants : pieces ≡ wants_untyped p n
@@ -104,19 +103,19 @@ module _ (n : ℕ) where
   abbrev DimensionsAt : Language (List Dimension)
   DimensionsAt = AllOf is_dimension_tree wants_of_dimension n
 
-  abbrev DimensionedL : Specs → Option Pointer → Named → Language Parameter
+  abbrev DimensionedL : Specifiers → Option Pointer → Identifier → Language Parameter
   DimensionedL specs pointer name = Both DimensionsAt (λ dimensions. Given (declared specs pointer name dimensions))
 
-  abbrev NamedL : Specs → Option Pointer → Language Parameter
+  abbrev NamedL : Specifiers → Option Pointer → Language Parameter
   NamedL specs pointer = Both (Single (named Name n)) (DimensionedL specs pointer)
 
-  abbrev UntypedL : Specs → Language Parameter
+  abbrev UntypedL : Specifiers → Language Parameter
   UntypedL specs = Both (PointerAt n) (NamedL specs)
 
-  untyped_flat : (pointer : Option Pointer) (named_ : Named) (dimensions : List Dimension) → wants_of_pointer pointer n ++ (name named_ n ++ (all_of (map wants_of_dimension dimensions) n ++ [])) ≡ wants_of_pointer pointer n ++ (name named_ n ++ all_of (map wants_of_dimension dimensions) n)
+  untyped_flat : (pointer : Option Pointer) (named_ : Identifier) (dimensions : List Dimension) → wants_of_pointer pointer n ++ (name named_ n ++ (all_of (map wants_of_dimension dimensions) n ++ [])) ≡ wants_of_pointer pointer n ++ (name named_ n ++ all_of (map wants_of_dimension dimensions) n)
   untyped_flat pointer named_ dimensions = ap (λ u. wants_of_pointer pointer n ++ (name named_ n ++ u)) (append-nil (all_of (map wants_of_dimension dimensions) n))
 
-  untyped_to : (specs : Specs) (p : Parameter) (ps : List Piece) → UntypedL specs p ps → ParameterOf n specs p ps
+  untyped_to : (specs : Specifiers) (p : Parameter) (ps : List Piece) → UntypedL specs p ps → ParameterOf n specs p ps
   untyped_to specs p ps b =
       let c = b.right in
       let d = c.right in
@@ -127,7 +126,7 @@ module _ (n : ℕ) where
         wants = onto b.whole b.left.wants (onto c.whole c.left.one (onto d.whole d.left.wants d.right.none)) ∙ untyped_flat b.first c.first d.first ∙ ap (λ u. wants_untyped u n) (sym is);
       }
 
-  untyped_from : (specs : Specs) (p : Parameter) (ps : List Piece) → ParameterOf n specs p ps → UntypedL specs p ps
+  untyped_from : (specs : Specifiers) (p : Parameter) (ps : List Piece) → ParameterOf n specs p ps → UntypedL specs p ps
   untyped_from specs p ps x =
       subst (λ u. UntypedL u p ps) x.specs_is
       (subst (λ u. UntypedL p.specs p u) (untyped_flat p.pointer p.name p.dimensions ∙ sym x.wants)
@@ -139,18 +138,18 @@ module _ (n : ℕ) where
   unfolding all_of
   some_dimensions = ([], ([], record { grammar = refl; wants = refl }))
 
-  some_dimensioned : (specs : Specs) (pointer : Option Pointer) (named_ : Named) → SomeOf (DimensionedL specs pointer named_)
+  some_dimensioned : (specs : Specifiers) (pointer : Option Pointer) (named_ : Identifier) → SomeOf (DimensionedL specs pointer named_)
   some_dimensioned specs pointer named_ = some_both _ _ some_dimensions (λ dimensions. some_given (declared specs pointer named_ dimensions))
 
-  some_named : (specs : Specs) (pointer : Option Pointer) → SomeOf (NamedL specs pointer)
+  some_named : (specs : Specifiers) (pointer : Option Pointer) → SomeOf (NamedL specs pointer)
   some_named specs pointer = some_both _ _ (some_single (named Name n) no_name) (some_dimensioned specs pointer)
 
-  some_parameter_of : (specs : Specs) → SomeOf (ParameterOf n specs)
+  some_parameter_of : (specs : Specifiers) → SomeOf (ParameterOf n specs)
   some_parameter_of specs =
       let x = some_both (PointerAt n) (NamedL specs) (some_pointer n) (some_named specs) in
       (x.0, (x.1.0, untyped_to specs x.0 x.1.0 x.1.1))
 
-  parameter_of_begins : (specs : Specs) (by : TokenKind → List ℕ → Bool) (b : Bool) → by Mark (codes "*") ≡ b → ((text : List ℕ) → by Name text ≡ b) → Begins (ParameterOf n specs) (λ w. by w.kind w.text) b
+  parameter_of_begins : (specs : Specifiers) (by : TokenKind → List ℕ → Bool) (b : Bool) → by Mark (codes "*") ≡ b → ((text : List ℕ) → by Name text ≡ b) → Begins (ParameterOf n specs) (λ w. by w.kind w.text) b
   parameter_of_begins specs by b star is_name_ p ps front rest is fits = pointed_begins n (NamedL specs) by b star (λ pointer. name_begins n (DimensionedL specs pointer) by b is_name_) p ps front rest (untyped_from specs p ps is) fits
 
   abbrev TypedL : Language Parameter
@@ -163,7 +162,7 @@ module _ (n : ℕ) where
       ∙ sym (append_assoc (wants_of_specs p.specs n ++ wants_of_pointer p.pointer n) (name p.name n) (all_of (map wants_of_dimension p.dimensions) n))
 
   -- a parameter by its type and what stands behind it
-  whole : (specs : Specs) (p : Parameter) (ps : List Piece) → are_specs specs ≡ true → ParameterOf n specs p ps → ParameterAt n p (wants_of_specs specs n ++ ps)
+  whole : (specs : Specifiers) (p : Parameter) (ps : List Piece) → are_specs specs ≡ true → ParameterOf n specs p ps → ParameterAt n p (wants_of_specs specs n ++ ps)
   unfolding is_parameter
   whole specs p ps ok x =
       record {
@@ -198,11 +197,11 @@ module _ (n : ℕ) where
   abbrev MoreL : Parameter → Language Parameters
   MoreL first = Both Rest (λ rest. Given (parameters.List (first ∷ rest)))
 
-  abbrev ListL : Specs → Language Parameters
+  abbrev ListL : Specifiers → Language Parameters
   ListL specs = Both (ParameterOf n specs) MoreL
 
   -- behind a type, by the place of the void that it is alone, if it is one
-  abbrev BehindL : Option Place → Specs → Language Parameters
+  abbrev BehindL : Option Place → Specifiers → Language Parameters
   BehindL None specs = ListL specs
   BehindL (Some place) specs = Either (Given (parameters.Void place)) (ListL specs)
 
@@ -212,7 +211,7 @@ module _ (n : ℕ) where
   abbrev ParametersL : Language Parameters
   ParametersL = Either (Given parameters.Nothing) SomeL
 
-  list_to : (specs : Specs) (t : Parameters) (ps : List Piece) → are_specs specs ≡ true → ListL specs t ps → ParametersAt n t (wants_of_specs specs n ++ ps)
+  list_to : (specs : Specifiers) (t : Parameters) (ps : List Piece) → are_specs specs ≡ true → ListL specs t ps → ParametersAt n t (wants_of_specs specs n ++ ps)
   unfolding are_parameters wants_of_parameters
   list_to specs t ps ok b =
       let p = whole specs b.first b.pieces1 ok b.left in
@@ -226,7 +225,7 @@ module _ (n : ℕ) where
             ∙ separated_is is_parameter wants_of_parameter n (codes ",") b.first rest.first ∙ ap (λ u. wants_of_parameters u n) (sym is);
       }
 
-  void_to : (specs : Specs) (place : Place) → void_of specs ≡ Some place → (t : Parameters) (ps : List Piece) → Given (parameters.Void place) t ps → ParametersAt n t (wants_of_specs specs n ++ ps)
+  void_to : (specs : Specifiers) (place : Place) → void_of specs ≡ Some place → (t : Parameters) (ps : List Piece) → Given (parameters.Void place) t ps → ParametersAt n t (wants_of_specs specs n ++ ps)
   unfolding are_parameters wants_of_parameters
   void_to specs place void t ps is =
       record {
@@ -234,7 +233,7 @@ module _ (n : ℕ) where
         wants = ap (λ u. wants_of_specs specs n ++ u) is.none ∙ append-nil (wants_of_specs specs n) ∙ ap (λ u. wants_of_specs u n) (void_is specs place void) ∙ void_wanted place n ∙ ap (λ u. wants_of_parameters u n) (sym is.tree_is);
       }
 
-  behind_to : (found : Option Place) (specs : Specs) → void_of specs ≡ found → are_specs specs ≡ true → (t : Parameters) (ps : List Piece) → BehindL found specs t ps → ParametersAt n t (wants_of_specs specs n ++ ps)
+  behind_to : (found : Option Place) (specs : Specifiers) → void_of specs ≡ found → are_specs specs ≡ true → (t : Parameters) (ps : List Piece) → BehindL found specs t ps → ParametersAt n t (wants_of_specs specs n ++ ps)
   behind_to None specs void ok t ps b = list_to specs t ps ok b
   behind_to (Some place) specs void ok t ps (this is) = void_to specs place void t ps is
   behind_to (Some place) specs void ok t ps (that b) = list_to specs t ps ok b
@@ -245,7 +244,7 @@ module _ (n : ℕ) where
   parameters_to t ps (that b) =
       subst (λ u. ParametersAt n t u) (sym (b.whole ∙ ap (λ u. u ++ b.pieces2) b.left.wants)) (behind_to (void_of b.first) b.first refl b.left.grammar t b.pieces2 b.right)
 
-  list_behind : (found : Option Place) (specs : Specs) (t : Parameters) (ps : List Piece) → ListL specs t ps → BehindL found specs t ps
+  list_behind : (found : Option Place) (specs : Specifiers) (t : Parameters) (ps : List Piece) → ListL specs t ps → BehindL found specs t ps
   list_behind None specs t ps b = b
   list_behind (Some place) specs t ps b = that b
 
@@ -275,14 +274,14 @@ module _ (n : ℕ) where
   some_more : (first : Parameter) → SomeOf (MoreL first)
   some_more first = some_both _ _ (some_rest is_parameter wants_of_parameter n (codes ",")) (λ rest. some_given (parameters.List (first ∷ rest)))
 
-  some_behind : (found : Option Place) (specs : Specs) → SomeOf (BehindL found specs)
+  some_behind : (found : Option Place) (specs : Specifiers) → SomeOf (BehindL found specs)
   some_behind None specs = some_both _ _ (some_parameter_of specs) some_more
   some_behind (Some place) specs = (parameters.Void place, ([], this (in_given (parameters.Void place))))
 
-  list_begins : (specs : Specs) (by : TokenKind → List ℕ → Bool) (b : Bool) → by Mark (codes "*") ≡ b → ((text : List ℕ) → by Name text ≡ b) → Begins (ListL specs) (λ w. by w.kind w.text) b
+  list_begins : (specs : Specifiers) (by : TokenKind → List ℕ → Bool) (b : Bool) → by Mark (codes "*") ≡ b → ((text : List ℕ) → by Name text ≡ b) → Begins (ListL specs) (λ w. by w.kind w.text) b
   list_begins specs by b star is_name_ = begins_both _ _ (λ w. by w.kind w.text) b (parameter_of_begins specs by b star is_name_)
 
-  behind_stops : (found : Option Place) (specs : Specs) (t : Parameters) (qs : List Piece) (ys rest : List Token) → BehindL found specs t qs → Fits qs ys → StopsParameters rest → StopsType (ys ++ rest)
+  behind_stops : (found : Option Place) (specs : Specifiers) (t : Parameters) (qs : List Piece) (ys rest : List Token) → BehindL found specs t qs → Fits qs ys → StopsParameters rest → StopsType (ys ++ rest)
   unfolding type_goes_by spelled_by found_by found_in
   behind_stops None specs t qs ys rest b fits stop = list_begins specs type_goes_by false refl (λ x. refl) t qs ys rest b fits
   behind_stops (Some place) specs t qs ys rest (this is) fits stop = given_stops (parameters.Void place) t qs ys rest StopsType is fits (bracket_stops_type rest stop)
@@ -291,7 +290,7 @@ module _ (n : ℕ) where
 -- ---- the readers
 
 module _ (most size n left : ℕ) (level : n + left ≡ most + 1) where
-  parameter_of_reads : (specs : Specs) → Reads (ParameterOf n specs) most size StopsParameter (read_parameter_of size left specs)
+  parameter_of_reads : (specs : Specifiers) → Reads (ParameterOf n specs) most size StopsParameter (read_parameter_of size left specs)
   unfolding read_parameter_of
   parameter_of_reads specs =
       reads_as (untyped_to n specs) (untyped_from n specs)
@@ -314,7 +313,7 @@ module _ (most size n left : ℕ) (level : n + left ≡ most + 1) where
       (λ specs ps is. some_parameter_of n specs)
       (λ specs c qs ys rest is fits stop. parameter_of_begins n specs type_goes_by false refl (λ t. refl) c qs ys rest is fits))
 
-  list_read : (specs : Specs) → Reads (ListL n specs) most size StopsParameters (read_parameters_of size left specs)
+  list_read : (specs : Specifiers) → Reads (ListL n specs) most size StopsParameters (read_parameters_of size left specs)
   unfolding read_parameters_of
   list_read specs =
       bind_reads _ _ most size StopsParameter StopsParameters _ _ (parameter_of_reads specs)
@@ -325,7 +324,7 @@ module _ (most size n left : ℕ) (level : n + left ≡ most + 1) where
       (λ first ps is. some_more n first)
       (λ first c qs ys more is fits stop. rest_stops is_parameter wants_of_parameter n (codes ",") (λ rest. parameters.List (first ∷ rest)) StopsParameter StopsParameters comma_ends bracket_ends c qs ys more is fits stop)
 
-  behind_read : (found : Option Place) (specs : Specs) → Reads (BehindL n found specs) most size StopsParameters (read_parameters_behind size left specs found)
+  behind_read : (found : Option Place) (specs : Specifiers) → Reads (BehindL n found specs) most size StopsParameters (read_parameters_behind size left specs found)
   unfolding spelled_by is_spelled is_kind
   behind_read None specs = list_read specs
   behind_read (Some place) specs =

@@ -1,26 +1,26 @@
 -- The reader of a declaration's pointer: each is read, and what is read is one.
 use Rattle.std.proofs.Common.{append_assoc, ◌≡◌, ℕ, ◌+◌, Bool, true, false, ◌||◌, List, [], ◌∷◌, ◌++◌, Option, Some, None, option_map, refl, sym, ap, ◌∙◌, subst, codes}
 use Rattle.c_tree.specs.Pieces.{Piece, IsWanted, Fits, word_at, optional}
-use Rattle.c_tree.specs.Statements.{wants_of_pointer}
+use Rattle.c_tree.specs.Declarations.{wants_of_pointer}
 use Rattle.c_tree.specs.declared.token.Place.{Place}
 use Rattle.c_tree.specs.declared.token.Token.{Token}
 use Rattle.c_tree.specs.declared.token.TokenKind.{TokenKind}
 use Rattle.c_tree.specs.declared.token.TokenKind.TheVariants.{Mark, Word}
 use Rattle.c_tree.specs.declared.statements.Pointer.{Pointer}
-use Rattle.c_expr.specs.Reading.{◌>>=◌, give}
-use Rattle.c_expr.specs.Tokens.{is_mark, is_word, is_spelled, is_kind, spelled_by, read_word_at}
-use Rattle.c_expr.proofs.Reader.{Language, Of, Reads}
-use Rattle.c_expr.proofs.Binding.{Both, bind_reads, fits_part}
-use Rattle.c_expr.proofs.Giving.{Given, give_reads, reads_as}
-use Rattle.c_expr.proofs.Taking.{Single}
-use Rattle.c_expr.proofs.Choosing.{FirstIs, Either, this, that, choose_reads}
-use Rattle.c_expr.proofs.Repeating.{given_stops}
-use Rattle.c_expr.proofs.Beginning.{Begins, begins_both, begins_single, SomeOf}
-use Rattle.c_expr.proofs.Joining.{in_both, in_single, in_given, onto, join2}
-use Rattle.c_expr.proofs.Spelt.{by_text, spelt_at, spelt_at_reads}
+use Rattle.c_reader.specs.Reading.{◌>>=◌, give}
+use Rattle.c_reader.specs.Tokens.{is_mark, is_word, is_spelled, is_kind, spelled_by, read_word_at}
+use Rattle.c_reader.proofs.Reader.{Language, Of, Reads}
+use Rattle.c_reader.proofs.Binding.{Both, bind_reads, fits_part}
+use Rattle.c_reader.proofs.Giving.{Given, give_reads, reads_as}
+use Rattle.c_reader.proofs.Taking.{Single}
+use Rattle.c_reader.proofs.Choosing.{FirstIs, Either, this, that, choose_reads}
+use Rattle.c_reader.proofs.Repeating.{given_stops}
+use Rattle.c_reader.proofs.Beginning.{Begins, begins_both, begins_single, SomeOf}
+use Rattle.c_reader.proofs.Joining.{in_both, in_single, in_given, onto, join2}
+use Rattle.c_reader.proofs.Spelt.{by_text, spelt_at, spelt_at_reads}
 use Rattle.c_expr.proofs.Suffixes.{Any}
-use Rattle.c_expr.proofs.Truths.{or_left, or_right}
-use Rattle.c_decl.specs.Objects.{read_constant, read_star, read_pointer}
+use Rattle.c_reader.proofs.Truths.{or_left, or_right}
+use Rattle.c_decl.specs.Declarations.{read_constant, read_star, read_pointer}
 
 -- any pointer, or none
 abbrev pub PointerAt : ℕ → Language (Option Pointer)

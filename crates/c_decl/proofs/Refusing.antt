@@ -5,15 +5,15 @@ use Rattle.c_tree.specs.Pieces.{Piece, IsWanted, StandsAt, Takes}
 use Rattle.c_tree.specs.declared.token.Place.{Place}
 use Rattle.c_tree.specs.declared.token.TokenKind.{TokenKind}
 use Rattle.c_tree.specs.declared.token.Token.{Token}
-use Rattle.c_expr.specs.Reading.{Reader, ◌>>=◌, after, take_as, taken}
-use Rattle.c_expr.specs.Tokens.{is_spelled}
-use Rattle.c_expr.proofs.Reader.{Language, Reads}
-use Rattle.c_expr.proofs.Binding.{Both, bind_reads}
-use Rattle.c_expr.proofs.Giving.{reads_same}
-use Rattle.c_expr.proofs.Taking.{Single, take_reads}
-use Rattle.c_expr.proofs.Beginning.{SomeOf}
-use Rattle.c_expr.proofs.Joining.{in_both, in_single}
-use Rattle.c_expr.proofs.Spelt.{spelled_is, spelled_yes, spelt_at}
+use Rattle.c_reader.specs.Reading.{Reader, ◌>>=◌, after, take_as, taken}
+use Rattle.c_reader.specs.Tokens.{is_spelled}
+use Rattle.c_reader.proofs.Reader.{Language, Reads}
+use Rattle.c_reader.proofs.Binding.{Both, bind_reads}
+use Rattle.c_reader.proofs.Giving.{reads_same}
+use Rattle.c_reader.proofs.Taking.{Single, take_reads}
+use Rattle.c_reader.proofs.Beginning.{SomeOf}
+use Rattle.c_reader.proofs.Joining.{in_both, in_single}
+use Rattle.c_reader.proofs.Spelt.{spelled_is, spelled_yes, spelt_at}
 use Rattle.c_expr.proofs.Levels.{Opening, Leading, refused_reads}
 
 module _ {A C : Type 0} (test : Token → Bool) (value : Token → A) (most size : ℕ) (piece : A → Piece) (some : A)

@@ -1,22 +1,22 @@
 -- The readers of simple statements, declared objects and parameters answer alike for all numbers of tokens that a list may have, as
 -- long as it has no more.
 use Rattle.std.proofs.Common.{◌≤◌, ℕ, zero, suc, ◌-◌, Bool, true, false, Option, Some, None, if◌then◌else◌, codes}
-use Rattle.c_tree.specs.Grammar.{is_call}
+use Rattle.c_tree.specs.Folds.{is_call}
 use Rattle.c_tree.specs.declared.token.Place.{Place}
 use Rattle.c_tree.specs.declared.expressions.Expr.{Expr}
-use Rattle.c_tree.specs.declared.expressions.Named.{Named}
-use Rattle.c_tree.specs.declared.expressions.Specs.{Specs}
-use Rattle.c_tree.specs.declared.statements.Init.{Init}
+use Rattle.c_tree.specs.declared.expressions.Identifier.{Identifier}
+use Rattle.c_tree.specs.declared.expressions.Specifiers.{Specifiers}
+use Rattle.c_tree.specs.declared.statements.Initializer.{Initializer}
 use Rattle.c_tree.specs.declared.statements.Pointer.{Pointer}
-use Rattle.c_tree.specs.declared.statements.Simple.{Simple}
-use Rattle.c_tree.specs.declared.statements.Simple.TheVariants as simple
-use Rattle.c_expr.specs.Reading.{Reader, give, choose}
-use Rattle.c_expr.proofs.Shrinking.{Like, like_give, like_deep, like_take, then_some, then_any, then_last, like_any, like_choose}
+use Rattle.c_tree.specs.declared.statements.ExpressionStatement.{ExpressionStatement}
+use Rattle.c_tree.specs.declared.statements.ExpressionStatement.TheVariants as simple
+use Rattle.c_reader.specs.Reading.{Reader, give, choose}
+use Rattle.c_reader.proofs.Shrinking.{Like, like_give, like_deep, like_take, then_some, then_any, then_last, like_any, like_choose}
 use Rattle.c_expr.proofs.Sizing.{many_like, more_like, dimensions_like, all_like}
 use Rattle.c_decl.specs.Bare.{void_of}
 use Rattle.c_decl.specs.Marks.{is_assign, is_step}
-use Rattle.c_decl.specs.Simple.{is_postfix, read_assigned, read_stepped, read_simple_behind, read_before, read_simple}
-use Rattle.c_decl.specs.Objects.{read_constant, read_star, read_pointer, starts_init, read_list, read_init, read_started, read_start, read_bounds, read_declarator_behind, read_declarator, read_objects_behind, read_objects_of, read_objects}
+use Rattle.c_decl.specs.ExpressionStatements.{is_postfix, read_assigned, read_stepped, read_simple_behind, read_before, read_simple}
+use Rattle.c_decl.specs.Declarations.{read_constant, read_star, read_pointer, starts_init, read_list, read_init, read_started, read_start, read_bounds, read_declarator_behind, read_declarator, read_objects_behind, read_objects_of, read_objects}
 use Rattle.c_decl.specs.Parameters.{read_parameter_of, read_parameter, read_parameters_of, read_parameters_behind, read_parameters}
 
 module _ (k s t : ℕ) (enough : k ≤ s) (also : k ≤ t) where
@@ -30,7 +30,7 @@ module _ (k s t : ℕ) (enough : k ≤ s) (also : k ≤ t) where
   unfolding read_stepped
   stepped_like left target = then_some k _ _ _ _ (like_take k _ _ left) (λ mark. like_give k _)
 
-  abbrev behind_by : ℕ → ℕ → Expr → Bool → Bool → Reader Simple
+  abbrev behind_by : ℕ → ℕ → Expr → Bool → Bool → Reader ExpressionStatement
   behind_by size left target call postfix =
       if call then choose is_assign (read_assigned size left target) (choose is_step (read_stepped left target) (give (simple.Call target)))
       else (if postfix then choose is_step (read_stepped left target) (read_assigned size left target) else read_assigned size left target)
@@ -67,7 +67,7 @@ module _ (k s t : ℕ) (enough : k ≤ s) (also : k ≤ t) where
   unfolding read_pointer
   pointer_like left = like_choose k 0 _ _ _ _ _ (like_any k _ _ (star_like left)) (like_give k None)
 
-  list_like : (left : ℕ) (f f' : Reader Init) → Like k 1 f f' → Like k 1 (read_list s left f) (read_list t left f')
+  list_like : (left : ℕ) (f f' : Reader Initializer) → Like k 1 f f' → Like k 1 (read_list s left f) (read_list t left f')
   unfolding read_list
   list_like left f f' F =
       then_some k _ _ _ _ (like_take k _ _ left)
@@ -91,7 +91,7 @@ module _ (k s t : ℕ) (enough : k ≤ s) (also : k ≤ t) where
   pub bounds_like : (left : ℕ) → Like k 0 (read_bounds s left) (read_bounds t left)
   bounds_like left = dimensions_like k s t enough also left _ _ (all_like k s t enough also left).expr
 
-  declarator_behind_like : (left : ℕ) (pointer : Option Pointer) (name : Named) → Like k 0 (read_declarator_behind s left pointer name) (read_declarator_behind t left pointer name)
+  declarator_behind_like : (left : ℕ) (pointer : Option Pointer) (name : Identifier) → Like k 0 (read_declarator_behind s left pointer name) (read_declarator_behind t left pointer name)
   unfolding read_declarator_behind
   declarator_behind_like left pointer name = then_any k _ _ _ _ (bounds_like left) (λ dimensions. then_any k _ _ _ _ (start_like left) (λ start. like_give k _))
 
@@ -99,13 +99,13 @@ module _ (k s t : ℕ) (enough : k ≤ s) (also : k ≤ t) where
   unfolding read_declarator
   declarator_like left = then_last k _ _ _ _ (pointer_like left) (λ pointer. then_some k _ _ _ _ (like_take k _ _ left) (declarator_behind_like left pointer))
 
-  pub objects_behind_like : (left : ℕ) (specs : Specs) (pointer : Option Pointer) (name : Named) → Like k 0 (read_objects_behind s left specs pointer name) (read_objects_behind t left specs pointer name)
+  pub objects_behind_like : (left : ℕ) (specs : Specifiers) (pointer : Option Pointer) (name : Identifier) → Like k 0 (read_objects_behind s left specs pointer name) (read_objects_behind t left specs pointer name)
   unfolding read_objects_behind
   objects_behind_like left specs pointer name =
       then_any k _ _ _ _ (declarator_behind_like left pointer name)
       (λ first. then_any k _ _ _ _ (many_like k s t enough also _ _ _ (then_some k _ _ _ _ (like_take k _ _ left) (λ comma. like_any k _ _ (declarator_like left)))) (λ rest. like_give k _))
 
-  pub objects_of_like : (left : ℕ) (specs : Specs) → Like k 1 (read_objects_of s left specs) (read_objects_of t left specs)
+  pub objects_of_like : (left : ℕ) (specs : Specifiers) → Like k 1 (read_objects_of s left specs) (read_objects_of t left specs)
   unfolding read_objects_of
   objects_of_like left specs = then_last k _ _ _ _ (pointer_like left) (λ pointer. then_some k _ _ _ _ (like_take k _ _ left) (objects_behind_like left specs pointer))
 
@@ -115,7 +115,7 @@ module _ (k s t : ℕ) (enough : k ≤ s) (also : k ≤ t) where
 
   -- ---- parameters
 
-  parameter_of_like : (left : ℕ) (specs : Specs) → Like k 1 (read_parameter_of s left specs) (read_parameter_of t left specs)
+  parameter_of_like : (left : ℕ) (specs : Specifiers) → Like k 1 (read_parameter_of s left specs) (read_parameter_of t left specs)
   unfolding read_parameter_of
   parameter_of_like left specs =
       then_last k _ _ _ _ (pointer_like left) (λ pointer. then_some k _ _ _ _ (like_take k _ _ left) (λ name. then_any k _ _ _ _ (bounds_like left) (λ dimensions. like_give k _)))
@@ -124,13 +124,13 @@ module _ (k s t : ℕ) (enough : k ≤ s) (also : k ≤ t) where
   unfolding read_parameter
   parameter_like left = then_some k _ _ _ _ (all_like k s t enough also left).specs (λ specs. like_any k _ _ (parameter_of_like left specs))
 
-  parameters_of_like : (left : ℕ) (specs : Specs) → Like k 1 (read_parameters_of s left specs) (read_parameters_of t left specs)
+  parameters_of_like : (left : ℕ) (specs : Specifiers) → Like k 1 (read_parameters_of s left specs) (read_parameters_of t left specs)
   unfolding read_parameters_of
   parameters_of_like left specs =
       then_some k _ _ _ _ (parameter_of_like left specs)
       (λ first. then_any k _ _ _ _ (many_like k s t enough also _ _ _ (then_some k _ _ _ _ (like_take k _ _ left) (λ comma. like_any k _ _ (parameter_like left)))) (λ rest. like_give k _))
 
-  parameters_behind_like : (left : ℕ) (specs : Specs) (void : Option Place) → Like k 0 (read_parameters_behind s left specs void) (read_parameters_behind t left specs void)
+  parameters_behind_like : (left : ℕ) (specs : Specifiers) (void : Option Place) → Like k 0 (read_parameters_behind s left specs void) (read_parameters_behind t left specs void)
   parameters_behind_like left specs None = like_any k _ _ (parameters_of_like left specs)
   parameters_behind_like left specs (Some place) = like_choose k 0 _ _ _ _ _ (like_give k _) (like_any k _ _ (parameters_of_like left specs))
 

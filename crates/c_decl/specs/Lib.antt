@@ -1,5 +1,5 @@
 pub mod Bare
 pub mod Marks
-pub mod Objects
+pub mod Declarations
 pub mod Parameters
-pub mod Simple
+pub mod ExpressionStatements

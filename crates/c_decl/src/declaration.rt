@@ -1,23 +1,25 @@
 //! Declared objects and their initialisers (C11 6.7, 6.7.6, 6.7.9).
 
 ghost use Rattle.std.specs.Prelude.{◌≡◌, codes};
-ghost use Rattle.c_tree.specs.declared.statements.Init.{Init};
-ghost use Rattle.c_expr.specs.Closures.{PartsBy};
-ghost use Rattle.c_expr.specs.Outcome.{Gives};
-ghost use Rattle.c_expr.specs.Reading as reading;
-ghost use Rattle.c_expr.specs.Reading.{Reader};
-ghost use Rattle.c_expr.specs.Tokens.{read_mark};
-ghost use Rattle.c_decl.specs.Objects as spec;
+ghost use Rattle.c_tree.specs.declared.statements.Initializer.{Initializer};
+ghost use Rattle.c_reader.specs.Closures.{PartsBy};
+ghost use Rattle.c_reader.specs.Outcome.{Gives};
+ghost use Rattle.c_reader.specs.Reading as reading;
+ghost use Rattle.c_reader.specs.Reading.{Reader};
+ghost use Rattle.c_reader.specs.Tokens.{read_mark};
+ghost use Rattle.c_decl.specs.Declarations as spec;
 
 use crate::rules::Rules;
-use c_expr::{
-    Cursor, Unread, dimensions, expr, is_mark, many_behind, more_behind, only, specs, starts_expr,
+use c_expr::{dimensions, expr, specs, starts_expr};
+use c_reader::{Cursor, Unread, is_mark, many_behind, more_behind, only};
+use c_tree::{
+    Declaration, Dimension, Identifier, InitDeclarator, Initialization, Initializer, Place,
+    Pointer, Specifiers, Token,
 };
-use c_tree::{Declarator, Dimension, Init, Named, Objects, Place, Pointer, Specs, Start, Token};
 use sqlite_items::Items;
 
 /// Whether an initialiser begins with this token.
-#[tactic(auto, unfolding(crate::specs::Objects::init_by, c_expr::specs::Tokens::spelled_by, c_expr::specs::Tokens::is_spelled, c_expr::specs::Tokens::is_kind))]
+#[tactic(auto, unfolding(crate::specs::Declarations::init_by, c_reader::specs::Tokens::spelled_by, c_reader::specs::Tokens::is_spelled, c_reader::specs::Tokens::is_kind))]
 fn starts_init(token: &Token) -> bool
     ensures { result ≡ spec.starts_init token.now }
 {
@@ -26,7 +28,7 @@ fn starts_init(token: &Token) -> bool
 
 impl Rules {
     /// `["const"]`
-    #[tactic(auto, using(c_expr::proofs::Gathering::choose_sees), unfolding(crate::specs::Objects::read_constant))]
+    #[tactic(auto, using(c_reader::proofs::Gathering::choose_sees), unfolding(crate::specs::Declarations::read_constant))]
     fn constant(self, cursor: &mut Cursor<'_>) -> Result<Option<Place>, Unread>
         ensures { Gives (spec.read_constant self.left cursor.old) result cursor.new }
     {
@@ -38,7 +40,7 @@ impl Rules {
     }
 
     /// `"*" ["const"]`
-    #[tactic(auto, unfolding(crate::specs::Objects::read_star))]
+    #[tactic(auto, unfolding(crate::specs::Declarations::read_star))]
     fn star(self, cursor: &mut Cursor<'_>) -> Result<Option<Pointer>, Unread>
         ensures { Gives (spec.read_star self.left cursor.old) result cursor.new }
     {
@@ -48,7 +50,7 @@ impl Rules {
     }
 
     /// `["*" ["const"]]`
-    #[tactic(auto, using(c_expr::proofs::Gathering::choose_sees), unfolding(crate::specs::Objects::read_pointer))]
+    #[tactic(auto, using(c_reader::proofs::Gathering::choose_sees), unfolding(crate::specs::Declarations::read_pointer))]
     pub fn pointer(self, cursor: &mut Cursor<'_>) -> Result<Option<Pointer>, Unread>
         ensures { Gives (spec.read_pointer self.left cursor.old) result cursor.new }
     {
@@ -60,14 +62,14 @@ impl Rules {
     }
 
     /// `"{" init ("," init)* [","] "}"`
-    #[tactic(auto, unfolding(crate::specs::Objects::read_list))]
-    fn list<R: Fn(&mut Cursor<'_>) -> Result<Init, Unread>>(
+    #[tactic(auto, unfolding(crate::specs::Declarations::read_list))]
+    fn list<R: Fn(&mut Cursor<'_>) -> Result<Initializer, Unread>>(
         self,
         cursor: &mut Cursor<'_>,
         init: R,
-    ) -> Result<Init, Unread>
+    ) -> Result<Initializer, Unread>
         requires { R.IsAlwaysCallable init }
-        ensures { (part : Reader Init) → PartsBy part (R.post init) → Gives (spec.read_list self.size self.left part cursor.old) result cursor.new }
+        ensures { (part : Reader Initializer) → PartsBy part (R.post init) → Gives (spec.read_list self.size self.left part cursor.old) result cursor.new }
     {
         let place = cursor.mark_at("{", self.left)?;
         let first = only(self.alloc, init(cursor)?)?;
@@ -81,11 +83,15 @@ impl Rules {
             first,
         )?;
         cursor.mark("}", self.left)?;
-        Ok(Init::List(place, parts, comma))
+        Ok(Initializer::List {
+            place,
+            parts,
+            comma,
+        })
     }
 
     /// An initialiser: `expr`, or a list in braces, whose parts are nested in it.
-    fn init(self, cursor: &mut Cursor<'_>) -> Result<Init, Unread>
+    fn init(self, cursor: &mut Cursor<'_>) -> Result<Initializer, Unread>
         ensures { Gives (spec.read_init self.size self.left cursor.old) result cursor.new }
     {
         if self.left == 0 {
@@ -101,22 +107,22 @@ impl Rules {
             );
         }
         let value = expr(self.alloc, cursor, self.size, self.left)?;
-        Ok(Init::Value(value))
+        Ok(Initializer::Expression(value))
     }
 
     /// `"=" init`
-    #[tactic(auto, unfolding(crate::specs::Objects::read_started))]
-    fn started(self, cursor: &mut Cursor<'_>) -> Result<Option<Start>, Unread>
+    #[tactic(auto, unfolding(crate::specs::Declarations::read_started))]
+    fn started(self, cursor: &mut Cursor<'_>) -> Result<Option<Initialization>, Unread>
         ensures { Gives (spec.read_started self.size self.left cursor.old) result cursor.new }
     {
         let place = cursor.mark_at("=", self.left)?;
         let value = self.init(cursor)?;
-        Ok(Some(Start { place, value }))
+        Ok(Some(Initialization { place, value }))
     }
 
     /// `["=" init]`
-    #[tactic(auto, using(c_expr::proofs::Gathering::choose_sees), unfolding(crate::specs::Objects::read_start))]
-    fn start(self, cursor: &mut Cursor<'_>) -> Result<Option<Start>, Unread>
+    #[tactic(auto, using(c_reader::proofs::Gathering::choose_sees), unfolding(crate::specs::Declarations::read_start))]
+    fn start(self, cursor: &mut Cursor<'_>) -> Result<Option<Initialization>, Unread>
         ensures { Gives (spec.read_start self.size self.left cursor.old) result cursor.new }
     {
         if cursor.sees_mark("=") {
@@ -134,18 +140,18 @@ impl Rules {
     }
 
     /// `bounds ["=" init]`, behind a declared name.
-    #[tactic(auto, unfolding(crate::specs::Objects::read_declarator_behind))]
+    #[tactic(auto, unfolding(crate::specs::Declarations::read_declarator_behind))]
     fn declarator_behind(
         self,
         cursor: &mut Cursor<'_>,
         pointer: Option<Pointer>,
-        name: Named,
-    ) -> Result<Declarator, Unread>
+        name: Identifier,
+    ) -> Result<InitDeclarator, Unread>
         ensures { Gives (spec.read_declarator_behind self.size self.left pointer name cursor.old) result cursor.new }
     {
         let dimensions = self.bounds(cursor)?;
         let start = self.start(cursor)?;
-        Ok(Declarator {
+        Ok(InitDeclarator {
             pointer,
             name,
             dimensions,
@@ -154,8 +160,8 @@ impl Rules {
     }
 
     /// `pointer NAME bounds ["=" init]`
-    #[tactic(auto, unfolding(crate::specs::Objects::read_declarator))]
-    fn declarator(self, cursor: &mut Cursor<'_>) -> Result<Declarator, Unread>
+    #[tactic(auto, unfolding(crate::specs::Declarations::read_declarator))]
+    fn declarator(self, cursor: &mut Cursor<'_>) -> Result<InitDeclarator, Unread>
         ensures { Gives (spec.read_declarator self.size self.left cursor.old) result cursor.new }
     {
         let pointer = self.pointer(cursor)?;
@@ -164,7 +170,7 @@ impl Rules {
     }
 
     /// `"," declarator`
-    fn next_declarator(self, cursor: &mut Cursor<'_>) -> Result<Declarator, Unread>
+    fn next_declarator(self, cursor: &mut Cursor<'_>) -> Result<InitDeclarator, Unread>
         ensures { Gives (reading.after (read_mark (codes ",") self.left cursor.old) (λ comma. spec.read_declarator self.size self.left)) result cursor.new }
     {
         cursor.mark(",", self.left)?;
@@ -172,14 +178,14 @@ impl Rules {
     }
 
     /// What stands behind the first declared name: `bounds ["=" init] ("," declarator)*`
-    #[tactic(auto, unfolding(crate::specs::Objects::read_objects_behind))]
+    #[tactic(auto, unfolding(crate::specs::Declarations::read_objects_behind))]
     pub fn objects_behind(
         self,
         cursor: &mut Cursor<'_>,
-        specs: Specs,
+        specs: Specifiers,
         pointer: Option<Pointer>,
-        name: Named,
-    ) -> Result<Objects, Unread>
+        name: Identifier,
+    ) -> Result<Declaration, Unread>
         ensures { Gives (spec.read_objects_behind self.size self.left specs pointer name cursor.old) result cursor.new }
     {
         let first = only(self.alloc, self.declarator_behind(cursor, pointer, name)?)?;
@@ -190,12 +196,16 @@ impl Rules {
             |cursor| self.next_declarator(cursor),
             first,
         )?;
-        Ok(Objects { specs, declarators })
+        Ok(Declaration { specs, declarators })
     }
 
-    /// Objects of a type: `declarator ("," declarator)*`
-    #[tactic(auto, unfolding(crate::specs::Objects::read_objects_of))]
-    pub fn objects_of(self, cursor: &mut Cursor<'_>, specs: Specs) -> Result<Objects, Unread>
+    /// Declaration of a type: `declarator ("," declarator)*`
+    #[tactic(auto, unfolding(crate::specs::Declarations::read_objects_of))]
+    pub fn objects_of(
+        self,
+        cursor: &mut Cursor<'_>,
+        specs: Specifiers,
+    ) -> Result<Declaration, Unread>
         ensures { Gives (spec.read_objects_of self.size self.left specs cursor.old) result cursor.new }
     {
         let pointer = self.pointer(cursor)?;
@@ -204,8 +214,8 @@ impl Rules {
     }
 
     /// `specs declarator ("," declarator)*`
-    #[tactic(auto, unfolding(crate::specs::Objects::read_objects))]
-    pub fn objects(self, cursor: &mut Cursor<'_>) -> Result<Objects, Unread>
+    #[tactic(auto, unfolding(crate::specs::Declarations::read_objects))]
+    pub fn objects(self, cursor: &mut Cursor<'_>) -> Result<Declaration, Unread>
         ensures { Gives (spec.read_objects self.size self.left cursor.old) result cursor.new }
     {
         let specs = specs(self.alloc, cursor, self.size, self.left)?;

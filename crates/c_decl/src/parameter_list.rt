@@ -1,20 +1,21 @@
 //! The parameters of a function's head (C11 6.7.6.3, 6.9.1).
 
 ghost use Rattle.std.specs.Prelude.{◌≡◌, codes};
-ghost use Rattle.c_expr.specs.Outcome.{Gives};
-ghost use Rattle.c_expr.specs.Reading as reading;
-ghost use Rattle.c_expr.specs.Tokens.{read_mark};
+ghost use Rattle.c_reader.specs.Outcome.{Gives};
+ghost use Rattle.c_reader.specs.Reading as reading;
+ghost use Rattle.c_reader.specs.Tokens.{read_mark};
 ghost use Rattle.c_decl.specs.Parameters as spec;
 
 use crate::bare::void_of;
 use crate::rules::Rules;
-use c_expr::{Cursor, Unread, is_mark, many_behind, only, specs};
-use c_tree::{Parameter, Parameters, Specs};
+use c_expr::specs;
+use c_reader::{Cursor, Unread, is_mark, many_behind, only};
+use c_tree::{Parameter, Parameters, Specifiers};
 
 impl Rules {
     /// A parameter of a type: `pointer NAME bounds`
     #[tactic(auto, unfolding(crate::specs::Parameters::read_parameter_of))]
-    fn parameter_of(self, cursor: &mut Cursor<'_>, specs: Specs) -> Result<Parameter, Unread>
+    fn parameter_of(self, cursor: &mut Cursor<'_>, specs: Specifiers) -> Result<Parameter, Unread>
         ensures { Gives (spec.read_parameter_of self.size self.left specs cursor.old) result cursor.new }
     {
         let pointer = self.pointer(cursor)?;
@@ -47,7 +48,7 @@ impl Rules {
 
     /// The parameters of which the first has this type.
     #[tactic(auto, unfolding(crate::specs::Parameters::read_parameters_of))]
-    fn parameters_of(self, cursor: &mut Cursor<'_>, specs: Specs) -> Result<Parameters, Unread>
+    fn parameters_of(self, cursor: &mut Cursor<'_>, specs: Specifiers) -> Result<Parameters, Unread>
         ensures { Gives (spec.read_parameters_of self.size self.left specs cursor.old) result cursor.new }
     {
         let first = only(self.alloc, self.parameter_of(cursor, specs)?)?;
@@ -62,7 +63,7 @@ impl Rules {
     }
 
     /// What stands between the brackets of a head: `["void" | parameter ("," parameter)*]`
-    #[tactic(auto, using(c_expr::proofs::Gathering::choose_sees), unfolding(crate::specs::Parameters::read_parameters))]
+    #[tactic(auto, using(c_reader::proofs::Gathering::choose_sees), unfolding(crate::specs::Parameters::read_parameters))]
     pub fn parameters(self, cursor: &mut Cursor<'_>) -> Result<Parameters, Unread>
         ensures { Gives (spec.read_parameters self.size self.left cursor.old) result cursor.new }
     {

@@ -1,20 +1,21 @@
 //! What a statement does to one place (C11 6.5.16, 6.5.2.4, 6.5.3.1, 6.8.3).
 
 ghost use Rattle.std.specs.Prelude.{◌≡◌, true};
-ghost use Rattle.c_tree.specs.Grammar as grammar;
-ghost use Rattle.c_expr.specs.Outcome.{Gives};
-ghost use Rattle.c_decl.specs.Simple as spec;
+ghost use Rattle.c_tree.specs.Folds as grammar;
+ghost use Rattle.c_reader.specs.Outcome.{Gives};
+ghost use Rattle.c_decl.specs.ExpressionStatements as spec;
 
 use crate::rules::Rules;
 use crate::tables::{assign_at, sees_assign, sees_step, step_at};
-use c_expr::{Cursor, Unread, expr, unary};
-use c_tree::{Expr, Simple};
+use c_expr::{expr, unary};
+use c_reader::{Cursor, Unread};
+use c_tree::{Expr, ExpressionStatement};
 
 /// Whether an expression is a call and nothing around it.
 fn is_call(expr: &Expr) -> bool
     ensures { result ≡ grammar.is_call expr.now }
 {
-    matches!(expr, Expr::Call(..))
+    matches!(expr, Expr::Call { .. })
 }
 
 /// Whether neither a prefix operator, a cast nor an operator between operands is outermost in an expression.
@@ -23,33 +24,42 @@ fn is_postfix(expr: &Expr) -> bool
 {
     !matches!(
         expr,
-        Expr::Prefix(..) | Expr::Cast(..) | Expr::Chain(..) | Expr::Conditional(..)
+        Expr::Unary { .. } | Expr::Cast { .. } | Expr::BinaryChain(..) | Expr::Conditional { .. }
     )
 }
 
 impl Rules {
     /// `assign expr`, behind what is assigned to.
-    #[tactic(auto, unfolding(crate::specs::Simple::read_assigned))]
-    fn assigned(self, cursor: &mut Cursor<'_>, target: Expr) -> Result<Simple, Unread>
+    #[tactic(auto, unfolding(crate::specs::ExpressionStatements::read_assigned))]
+    fn assigned(self, cursor: &mut Cursor<'_>, target: Expr) -> Result<ExpressionStatement, Unread>
         ensures { Gives (spec.read_assigned self.size self.left target cursor.old) result cursor.new }
     {
-        let (place, mark) = assign_at(cursor, self.left)?;
+        let (place, operator) = assign_at(cursor, self.left)?;
         let value = expr(self.alloc, cursor, self.size, self.left)?;
-        Ok(Simple::Assign(target, place, mark, value))
+        Ok(ExpressionStatement::Assignment {
+            target,
+            place,
+            operator,
+            value,
+        })
     }
 
     /// `step`, behind its operand.
-    #[tactic(auto, unfolding(crate::specs::Simple::read_stepped))]
-    fn stepped(self, cursor: &mut Cursor<'_>, target: Expr) -> Result<Simple, Unread>
+    #[tactic(auto, unfolding(crate::specs::ExpressionStatements::read_stepped))]
+    fn stepped(self, cursor: &mut Cursor<'_>, target: Expr) -> Result<ExpressionStatement, Unread>
         ensures { Gives (spec.read_stepped self.left target cursor.old) result cursor.new }
     {
-        let (place, mark) = step_at(cursor, self.left)?;
-        Ok(Simple::Behind(target, place, mark))
+        let (place, step) = step_at(cursor, self.left)?;
+        Ok(ExpressionStatement::PostfixStep {
+            operand: target,
+            place,
+            step,
+        })
     }
 
     /// `[assign expr | step]`, behind a call.
-    #[tactic(auto, using(c_expr::proofs::Gathering::choose_sees), unfolding(crate::specs::Simple::read_simple_behind))]
-    fn behind_call(self, cursor: &mut Cursor<'_>, call: Expr) -> Result<Simple, Unread>
+    #[tactic(auto, using(c_reader::proofs::Gathering::choose_sees), unfolding(crate::specs::ExpressionStatements::read_simple_behind))]
+    fn behind_call(self, cursor: &mut Cursor<'_>, call: Expr) -> Result<ExpressionStatement, Unread>
         requires { grammar.is_call call ≡ true }
         ensures { Gives (spec.read_simple_behind self.size self.left call cursor.old) result cursor.new }
     {
@@ -58,14 +68,18 @@ impl Rules {
         } else if sees_step(cursor) {
             self.stepped(cursor, call)
         } else {
-            Ok(Simple::Call(call))
+            Ok(ExpressionStatement::Call(call))
         }
     }
 
     /// What can stand behind a unary expression: an assignment; a step, unless a prefix operator or a cast leads the
     /// expression; nothing, where it is a call.
-    #[tactic(auto, using(c_expr::proofs::Gathering::choose_sees), unfolding(crate::specs::Simple::read_simple_behind))]
-    fn simple_behind(self, cursor: &mut Cursor<'_>, target: Expr) -> Result<Simple, Unread>
+    #[tactic(auto, using(c_reader::proofs::Gathering::choose_sees), unfolding(crate::specs::ExpressionStatements::read_simple_behind))]
+    fn simple_behind(
+        self,
+        cursor: &mut Cursor<'_>,
+        target: Expr,
+    ) -> Result<ExpressionStatement, Unread>
         ensures { Gives (spec.read_simple_behind self.size self.left target cursor.old) result cursor.new }
     {
         if is_call(&target) {
@@ -78,18 +92,22 @@ impl Rules {
     }
 
     /// `step unary`
-    #[tactic(auto, unfolding(crate::specs::Simple::read_before))]
-    fn before(self, cursor: &mut Cursor<'_>) -> Result<Simple, Unread>
+    #[tactic(auto, unfolding(crate::specs::ExpressionStatements::read_before))]
+    fn before(self, cursor: &mut Cursor<'_>) -> Result<ExpressionStatement, Unread>
         ensures { Gives (spec.read_before self.size self.left cursor.old) result cursor.new }
     {
-        let (place, mark) = step_at(cursor, self.left)?;
-        let target = unary(self.alloc, cursor, self.size, self.left - 1)?;
-        Ok(Simple::Before(place, mark, target))
+        let (place, step) = step_at(cursor, self.left)?;
+        let operand = unary(self.alloc, cursor, self.size, self.left - 1)?;
+        Ok(ExpressionStatement::PrefixStep {
+            place,
+            step,
+            operand,
+        })
     }
 
     /// `step unary`, or a unary expression and what stands behind it.
-    #[tactic(auto, using(c_expr::proofs::Gathering::choose_sees), unfolding(crate::specs::Simple::read_simple))]
-    pub fn simple(self, cursor: &mut Cursor<'_>) -> Result<Simple, Unread>
+    #[tactic(auto, using(c_reader::proofs::Gathering::choose_sees), unfolding(crate::specs::ExpressionStatements::read_simple))]
+    pub fn simple(self, cursor: &mut Cursor<'_>) -> Result<ExpressionStatement, Unread>
         ensures { Gives (spec.read_simple self.size self.left cursor.old) result cursor.new }
     {
         if sees_step(cursor) {

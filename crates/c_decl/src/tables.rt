@@ -1,31 +1,31 @@
 //! The marks that assign and step (C11 6.5.16, 6.5.2.4, 6.5.3.1).
 
 ghost use Rattle.std.specs.Prelude.{◌≡◌};
-ghost use Rattle.c_expr.specs.Outcome.{Gives, sees};
-ghost use Rattle.c_expr.specs.Reading.{take_as};
+ghost use Rattle.c_reader.specs.Outcome.{Gives, sees};
+ghost use Rattle.c_reader.specs.Reading.{take_as};
 ghost use Rattle.c_decl.specs.Marks as spec;
 
-use c_expr::{Cursor, Unread, found_of};
-use c_tree::{Assign, Place, Step, Token, TokenKind};
+use c_reader::{Cursor, Unread, found_of};
+use c_tree::{AssignmentOperator, Place, Step, Token, TokenKind};
 
 /// The marks that assign.
-const ASSIGNS: [(&str, Assign); 11] = [
-    ("=", Assign::Plain),
-    ("*=", Assign::Multiply),
-    ("/=", Assign::Divide),
-    ("%=", Assign::Remainder),
-    ("+=", Assign::Add),
-    ("-=", Assign::Subtract),
-    ("<<=", Assign::ShiftLeft),
-    (">>=", Assign::ShiftRight),
-    ("&=", Assign::And),
-    ("^=", Assign::Xor),
-    ("|=", Assign::Or),
+const ASSIGNS: [(&str, AssignmentOperator); 11] = [
+    ("=", AssignmentOperator::Plain),
+    ("*=", AssignmentOperator::Multiply),
+    ("/=", AssignmentOperator::Divide),
+    ("%=", AssignmentOperator::Remainder),
+    ("+=", AssignmentOperator::Add),
+    ("-=", AssignmentOperator::Subtract),
+    ("<<=", AssignmentOperator::ShiftLeft),
+    (">>=", AssignmentOperator::ShiftRight),
+    ("&=", AssignmentOperator::And),
+    ("^=", AssignmentOperator::Xor),
+    ("|=", AssignmentOperator::Or),
 ];
 
 /// The assignment that a token marks, if it marks one.
 #[tactic(auto, unfolding(crate::specs::Marks::assign_of))]
-pub fn assign_of(token: &Token) -> Option<Assign>
+pub fn assign_of(token: &Token) -> Option<AssignmentOperator>
     ensures { result ≡ spec.assign_of token.now }
 {
     found_of(TokenKind::Mark, ASSIGNS.as_slice(), token)
@@ -71,7 +71,7 @@ pub fn sees_step(cursor: &Cursor<'_>) -> bool
 }
 
 /// Takes the mark of an assignment, and tells its place.
-pub fn assign_at(cursor: &mut Cursor<'_>, left: u32) -> Result<(Place, Assign), Unread>
+pub fn assign_at(cursor: &mut Cursor<'_>, left: u32) -> Result<(Place, AssignmentOperator), Unread>
     ensures { Gives (take_as spec.is_assign spec.assign_at left cursor.old) result cursor.new }
 {
     let token = cursor.peek();

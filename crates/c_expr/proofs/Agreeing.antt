@@ -1,4 +1,4 @@
--- Words of a type that agree are few of each kind.
+-- FunctionSpecifiers of a type that agree are few of each kind.
 use Rattle.std.proofs.Common.{◌≡◌, ◌≤◌, ◌<◌, inl, inr, ℕ, zero, suc, ◌+◌, ◌-◌, Bool, true, false, ◌&&◌, ◌==◌, nat_le, if◌then◌else◌, Option, Some, None, is_some, unwrap_or, List, [], ◌∷◌, ◌++◌, Result, refl, sym, ap, ◌∙◌, arith, append-nil}
 use Rattle.std.specs.Result.{IsErrAnd}
 use Rattle.std.proofs.lemmas.Bool.{eqb-true, leb-true}
@@ -7,15 +7,16 @@ use Rattle.c_tree.specs.declared.token.Token.{Token}
 use Rattle.c_tree.specs.declared.expressions.TypeWord.{TypeWord}
 use Rattle.c_tree.specs.declared.expressions.TypeWord.TheVariants as words
 use Rattle.c_expr.specs.Counting.{Few}
-use Rattle.c_expr.specs.declared.unread.Unread.{Unread}
-use Rattle.c_expr.specs.Reading.{Answer, good, Reader, after, ◌>>=◌, give, take_as}
+use Rattle.c_reader.specs.declared.unread.Unread.{Unread}
+use Rattle.c_reader.specs.Reading.{Answer, good, Reader, after, ◌>>=◌, give, take_as}
 use Rattle.c_expr.specs.Tokens.{type_word_of}
 use Rattle.c_expr.specs.Types.{agrees, word_of, read_words}
-use Rattle.c_expr.specs.Outcome.{Fails, Gives, sees, is_end}
-use Rattle.c_expr.proofs.Truths.{and_left, and_right, or_cases}
-use Rattle.c_expr.proofs.Failing.{fails_after, fails_as, gives_fault}
-use Rattle.c_expr.proofs.Gathering.{choose_sees, gathered, gathered_one}
-use Rattle.c_expr.proofs.Tokening.{type_word_only, sees_first}
+use Rattle.c_reader.specs.Outcome.{Fails, Gives, sees, is_end}
+use Rattle.c_reader.proofs.Truths.{and_left, and_right, or_cases}
+use Rattle.c_reader.proofs.Failing.{fails_after, fails_as, gives_fault}
+use Rattle.c_reader.proofs.Gathering.{choose_sees, gathered, gathered_one}
+use Rattle.c_expr.proofs.Tokening.{type_word_only}
+use Rattle.c_reader.proofs.Tokening.{sees_first}
 
 pub few_first : (w : TypeWord) → Few 2 (with_word w no_words)
 few_first words.Void = record { alone = omega arith; char = omega arith; sign = omega arith; short = omega arith; int = omega arith; long = omega arith }

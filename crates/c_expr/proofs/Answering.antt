@@ -3,31 +3,34 @@ use Rattle.std.proofs.Common.{◌≡◌, ◌≤◌, inl, inr, ℕ, suc, ◌+◌,
 use Rattle.std.proofs.lemmas.Bool.{eqb-true}
 use Rattle.std.proofs.lemmas.List.{append_assoc, append-nil, length-append}
 use Rattle.c_tree.specs.Pieces.{Piece, Fits}
-use Rattle.c_tree.specs.Expressions.{wants_of_expr}
+use Rattle.c_tree.specs.Folds.{wants_of_expr}
 use Rattle.c_tree.specs.declared.token.Token.{Token}
 use Rattle.c_tree.specs.declared.expressions.Expr.{Expr}
-use Rattle.c_expr.specs.Faults.{Tells, names_construct, named_word}
-use Rattle.c_expr.specs.Reading.{Answer, Reader}
-use Rattle.c_expr.specs.Reading as reading
+use Rattle.c_reader.specs.Faults.{Tells, names_construct, named_word}
+use Rattle.c_reader.specs.Reading.{Answer, Reader}
+use Rattle.c_reader.specs.Reading as reading
 use Rattle.c_expr.specs.Levels.{readers_at}
-use Rattle.c_expr.specs.Alone.{all_but_one, alone, fault_of}
-use Rattle.c_expr.specs.Runs.{most_nesting, AreShallow, SpellsExpr, BeginsExpr, IsRun, IsTaken, IsUnread, IsTooDeep, IsFaultOf}
-use Rattle.c_expr.specs.Samples.{sample_of, end_token, is_taken, can_stand}
-use Rattle.c_expr.specs.Tokens.{goes_by, suffix_by, spelled_by, found_by}
-use Rattle.c_expr.specs.declared.faults.SyntaxFault.TheVariants as fault
-use Rattle.c_expr.specs.declared.samples.Sample.{Sample}
-use Rattle.c_expr.proofs.Reader.{Shallow, Bad, Deep, Found, Reads}
-use Rattle.c_expr.proofs.Binding.{fits_append}
-use Rattle.c_expr.proofs.Choosing.{FirstIs}
-use Rattle.c_expr.proofs.Ending.{Parting, earlier, same, later, parting}
+use Rattle.c_reader.specs.Alone.{all_but_one, alone, fault_of}
+use Rattle.c_reader.specs.Depths.{most_nesting, AreShallow}
+use Rattle.c_reader.specs.Firsts.{BeginsOf, IsFirstDeep}
+use Rattle.c_expr.specs.Runs.{SpellsExpr, ExprAt, IsRun, IsTaken, IsUnreadRun, IsFaultOf}
+use Rattle.c_reader.specs.Samples.{sample_of, end_token, is_taken, can_stand}
+use Rattle.c_expr.specs.Tokens.{goes_by, suffix_by}
+use Rattle.c_reader.specs.Tokens.{spelled_by, found_by}
+use Rattle.c_reader.specs.declared.faults.SyntaxFault.TheVariants as fault
+use Rattle.c_reader.specs.declared.samples.Sample.{Sample}
+use Rattle.c_reader.proofs.Reader.{Shallow, Bad, Deep, Found, Reads}
+use Rattle.c_reader.proofs.Binding.{fits_append}
+use Rattle.c_reader.proofs.Choosing.{FirstIs}
+use Rattle.c_reader.proofs.Ending.{Parting, earlier, same, later, parting}
 use Rattle.c_expr.proofs.Levels.{all_read}
 use Rattle.c_expr.proofs.Oneness.{deepest, shallow_more, all_shallow, one_expr}
-use Rattle.c_expr.proofs.Probing.{BeginsOf, begins_less, none_begins, none_longer}
-use Rattle.c_expr.proofs.Probing as probing
-use Rattle.c_expr.proofs.Shrinking.{Like, like_any}
+use Rattle.c_reader.proofs.Probing.{begins_less, none_begins, none_longer}
+use Rattle.c_reader.proofs.Probing as probing
+use Rattle.c_reader.proofs.Shrinking.{Like, like_any}
 use Rattle.c_expr.proofs.Sizing.{all_like}
 use Rattle.c_expr.proofs.Suffixes.{At, Stops}
-use Rattle.c_expr.proofs.Truths.{not_true}
+use Rattle.c_reader.proofs.Truths.{not_true}
 
 to_shallow : (ps : List Piece) → Shallow most_nesting ps → AreShallow ps
 unfolding Shallow AreShallow
@@ -82,30 +85,30 @@ nothing_behind (x ∷ between) w rest h = cc
 -- ---- expressions that begin with some tokens
 
 module _ (nesting : ℕ) where
-  to_begins : (ts : List Token) → BeginsExpr nesting ts → BeginsOf (At 0 nesting) ts
-  to_begins ts b = record { tree = b.expr; pieces = b.pieces; missing = b.missing; spelled_ = record { grammar = b.grammar; wants = sym b.wants }; fits = b.fits }
+  to_begins : (ts : List Token) → BeginsOf (ExprAt nesting) ts → BeginsOf (At 0 nesting) ts
+  to_begins ts b = record { tree = b.tree; pieces = b.pieces; missing = b.missing; spelled_ = record { grammar = b.spelled_.grammar; wants = b.spelled_.wants }; fits = b.fits }
 
-  from_begins : (ts : List Token) → BeginsOf (At 0 nesting) ts → BeginsExpr nesting ts
-  from_begins ts b = record { expr = b.tree; grammar = b.spelled_.grammar; pieces = b.pieces; missing = b.missing; wants = sym b.spelled_.wants; fits = b.fits }
+  from_begins : (ts : List Token) → BeginsOf (At 0 nesting) ts → BeginsOf (ExprAt nesting) ts
+  from_begins ts b = record { tree = b.tree; pieces = b.pieces; missing = b.missing; spelled_ = record { grammar = b.spelled_.grammar; wants = b.spelled_.wants }; fits = b.fits }
 
-  spelled_begins : (ts : List Token) (e : Expr) → SpellsExpr nesting ts e → BeginsExpr nesting ts
-  spelled_begins ts e s = record { expr = e; grammar = s.grammar; pieces = wants_of_expr e nesting; missing = []; wants = sym (append-nil (wants_of_expr e nesting)); fits = s.fits }
+  spelled_begins : (ts : List Token) (e : Expr) → SpellsExpr nesting ts e → BeginsOf (ExprAt nesting) ts
+  spelled_begins ts e s = record { tree = e; pieces = wants_of_expr e nesting; missing = []; spelled_ = record { grammar = s.grammar; wants = append-nil (wants_of_expr e nesting) }; fits = s.fits }
 
-  front_begins : (xs ys : List Token) → BeginsExpr nesting (xs ++ ys) → BeginsExpr nesting xs
+  front_begins : (xs ys : List Token) → BeginsOf (ExprAt nesting) (xs ++ ys) → BeginsOf (ExprAt nesting) xs
   front_begins xs ys b = from_begins xs (begins_less (At 0 nesting) xs ys (to_begins (xs ++ ys) b))
 
-  first_begins : (ts xs : List Token) (x : Token) (ys : List Token) → ts ≡ xs ++ x ∷ ys → BeginsExpr nesting ts → BeginsExpr nesting (xs ++ x ∷ [])
-  first_begins ts xs x ys is b = front_begins (xs ++ x ∷ []) ys (subst (BeginsExpr nesting) (is ∙ sym (append_assoc xs (x ∷ []) ys)) b)
+  first_begins : (ts xs : List Token) (x : Token) (ys : List Token) → ts ≡ xs ++ x ∷ ys → BeginsOf (ExprAt nesting) ts → BeginsOf (ExprAt nesting) (xs ++ x ∷ [])
+  first_begins ts xs x ys is b = front_begins (xs ++ x ∷ []) ys (subst (BeginsOf (ExprAt nesting)) (is ∙ sym (append_assoc xs (x ∷ []) ys)) b)
 
   -- ---- the longest run
 
   same_run : (run other : List Token) (w v : Token) (rest behind : List Token) → Parting run other w v rest behind
-      → BeginsExpr nesting run → (BeginsExpr nesting (run ++ w ∷ []) → ⊥) → BeginsExpr nesting other → (BeginsExpr nesting (other ++ v ∷ []) → ⊥) → run ≡ other
+      → BeginsOf (ExprAt nesting) run → (BeginsOf (ExprAt nesting) (run ++ w ∷ []) → ⊥) → BeginsOf (ExprAt nesting) other → (BeginsOf (ExprAt nesting) (other ++ v ∷ []) → ⊥) → run ≡ other
   same_run run other w v rest behind (earlier between is tail) one none two also = absurd (none (first_begins other run w between is two))
   same_run run other w v rest behind (same is first tail) one none two also = is
   same_run run other w v rest behind (later between is tail) one none two also = absurd (also (first_begins run other v between is one))
 
-  one_run : (ts run other : List Token) (w v : Token) → IsRun nesting ts run w → IsRun nesting ts other v → BeginsExpr nesting run → BeginsExpr nesting other → run ≡ other
+  one_run : (ts run other : List Token) (w v : Token) → IsRun nesting ts run w → IsRun nesting ts other v → BeginsOf (ExprAt nesting) run → BeginsOf (ExprAt nesting) other → run ≡ other
   one_run ts run other w v r s one two = same_run run other w v r.behind s.behind (parting run other w v r.behind s.behind (sym r.whole ∙ s.whole)) one r.none two s.none
 
   -- an expression that is the longest run is the one that is taken
@@ -115,9 +118,9 @@ module _ (nesting : ℕ) where
       let fits : Fits (wants_of_expr e nesting) run = subst (λ u. Fits (wants_of_expr e nesting) u) is t.spelled_.fits in
       (one_expr nesting e expr run t.spelled_.grammar s.grammar fits s.fits, sym t.count_is ∙ ap length is)
 
-  pub unread_none : (ts other : List Token) (v : Token) (construct : Bool) → IsUnread nesting ts other v construct → (run : List Token) (w : Token) (expr : Expr) → IsRun nesting ts run w → SpellsExpr nesting run expr → ⊥
+  pub unread_none : (ts other : List Token) (v : Token) (construct : Bool) → IsUnreadRun nesting ts other v construct → (run : List Token) (w : Token) (expr : Expr) → IsRun nesting ts run w → SpellsExpr nesting run expr → ⊥
   unread_none ts other v construct u run w expr r s =
-      let is : run ≡ other = one_run ts run other w v r u.longest (spelled_begins run expr s) u.begins in
+      let is : run ≡ other = one_run ts run other w v r (record { behind = u.unread.first.behind; whole = u.unread.first.whole; none = u.unread.first.none }) (spelled_begins run expr s) u.unread.first.begins in
       u.broken expr (subst (λ x. SpellsExpr nesting x expr) is s)
 
   -- ---- no expression goes on with the end
@@ -134,7 +137,7 @@ module _ (nesting : ℕ) where
   unfolding FirstIs
   nothing_stops = refl
 
-  ends : (run : List Token) (e : Expr) → SpellsExpr nesting run e → BeginsExpr nesting (run ++ end_token ∷ []) → ⊥
+  ends : (run : List Token) (e : Expr) → SpellsExpr nesting run e → BeginsOf (ExprAt nesting) (run ++ end_token ∷ []) → ⊥
   ends run e s b =
       let ps = wants_of_expr e nesting in
       let d = deepest ps in
@@ -176,14 +179,13 @@ module _ (nesting : ℕ) where
         let ps = wants_of_expr e nesting in
         deep_enough 200 e ps run (end_token ∷ []) (read size) (from_shallow ps shallow) ((reads size).all e ps run (end_token ∷ []) (record { grammar = s.grammar; wants = refl }) s.fits end_stops small)
 
-    begins_deep : (ts rest : List Token) (d : Deep (At 0 nesting) 200 ts rest) → BeginsExpr nesting (d.front ++ d.token ∷ [])
+    begins_deep : (ts rest : List Token) (d : Deep (At 0 nesting) 200 ts rest) → BeginsOf (ExprAt nesting) (d.front ++ d.token ∷ [])
     unfolding Fits
     begins_deep ts rest d = record {
-      expr = d.tree;
-      grammar = d.spelled.grammar;
+      tree = d.tree;
       pieces = d.pieces ++ d.piece ∷ [];
       missing = d.missing;
-      wants = sym d.spelled.wants ∙ sym (append_assoc d.pieces (d.piece ∷ []) d.missing);
+      spelled_ = record { grammar = d.spelled.grammar; wants = append_assoc d.pieces (d.piece ∷ []) d.missing ∙ d.spelled.wants };
       fits = fits_append d.pieces (d.piece ∷ []) d.front (d.token ∷ []) d.fits (d.takes, tt);
     }
 
@@ -206,16 +208,15 @@ module _ (nesting : ℕ) where
             count_is = omega (arith, ap length g.1.0, length-append g.0 (w ∷ behind));
           }
 
-      first_deep : (l : List Token) (d : Deep (At 0 nesting) 200 ts l) → IsTooDeep nesting ts d.front d.token
+      first_deep : (l : List Token) (d : Deep (At 0 nesting) 200 ts l) → IsFirstDeep (ExprAt nesting) ts d.front d.token
       first_deep l d = record {
         behind = d.behind;
         whole = d.whole ∙ ap (λ u. d.front ++ u) d.first;
-        expr = d.tree;
-        grammar = d.spelled.grammar;
+        tree = d.tree;
         pieces = d.pieces;
         piece = d.piece;
         missing = d.missing;
-        wants = sym d.spelled.wants;
+        spelled_ = record { grammar = d.spelled.grammar; wants = d.spelled.wants };
         fits = d.fits;
         takes = d.takes;
         shallow = to_shallow d.pieces d.shallow;
@@ -239,7 +240,7 @@ module _ (nesting : ℕ) where
           let there : read size (d.front ++ d.token ∷ (between ++ end_token ∷ [])) ≡ reading.deep (d.token ∷ (between ++ end_token ∷ [])) = (reads size).local_deep d.front d.token d.behind (between ++ end_token ∷ []) here in
           let whole : run ++ end_token ∷ [] ≡ d.front ++ d.token ∷ (between ++ end_token ∷ []) = ap (λ u. u ++ end_token ∷ []) is ∙ append_assoc d.front (d.token ∷ between) (end_token ∷ []) in
           good_or_deep (read size (run ++ end_token ∷ [])) e (end_token ∷ []) (d.token ∷ (between ++ end_token ∷ [])) (spelled_good size run e short s shallow) (ap (read size) whole ∙ there)
-      deep_apart l d h run v e r (same is first tail) s shallow = r.none (subst (BeginsExpr nesting) (ap (λ u. u ++ d.token ∷ []) is ∙ ap (λ u. run ++ u ∷ []) first) (begins_deep ts l d))
+      deep_apart l d h run v e r (same is first tail) s shallow = r.none (subst (BeginsOf (ExprAt nesting)) (ap (λ u. u ++ d.token ∷ []) is ∙ ap (λ u. run ++ u ∷ []) first) (begins_deep ts l d))
       deep_apart l d h run v e r (later between is tail) s shallow =
           r.none (first_begins (d.front ++ d.token ∷ []) run v (between ++ d.token ∷ []) (ap (λ u. u ++ d.token ∷ []) is ∙ append_assoc run (v ∷ between) (d.token ∷ [])) (begins_deep ts l d))
 
@@ -310,7 +311,7 @@ module _ (nesting : ℕ) where
       deep_by : (rest : List Token) (d : Deep (At 0 nesting) 200 (run ++ end_token ∷ []) rest) → read size (run ++ end_token ∷ []) ≡ reading.deep rest → Parting run d.front end_token d.token [] d.behind → (e : Expr) → SpellsExpr nesting run e → ⊥
       deep_by rest d h (earlier between is tail) e s = nothing_behind between d.token d.behind tail
       deep_by rest d h (same is first tail) e s =
-          ends run e s (subst (BeginsExpr nesting) (ap (λ u. u ++ d.token ∷ []) (sym is) ∙ ap (λ u. run ++ u ∷ []) (sym first)) (begins_deep (run ++ end_token ∷ []) rest d))
+          ends run e s (subst (BeginsOf (ExprAt nesting)) (ap (λ u. u ++ d.token ∷ []) (sym is) ∙ ap (λ u. run ++ u ∷ []) (sym first)) (begins_deep (run ++ end_token ∷ []) rest d))
       deep_by rest d h (later between is tail) e s =
           never_deep d.front d.token between d.behind is (ap (read size) (ap (λ u. d.front ++ u) (sym d.first) ∙ sym d.whole) ∙ h ∙ ap (λ u. reading.deep u) d.first)
 
@@ -342,16 +343,16 @@ module _ (nesting : ℕ) where
         enough_list : length list ≤ size
         enough_list = omega (arith, small, length-append run (w ∷ behind), length-append run (sample_of s ∷ end_token ∷ []))
 
-        good_by : (e : Expr) (front : List Token) (x : Token) (rest : List Token) → read size (front ++ x ∷ rest) ≡ reading.good e (x ∷ rest) → SpellsExpr nesting front e → Parting run front (sample_of s) x (end_token ∷ []) rest → BeginsExpr nesting (run ++ sample_of s ∷ [])
+        good_by : (e : Expr) (front : List Token) (x : Token) (rest : List Token) → read size (front ++ x ∷ rest) ≡ reading.good e (x ∷ rest) → SpellsExpr nesting front e → Parting run front (sample_of s) x (end_token ∷ []) rest → BeginsOf (ExprAt nesting) (run ++ sample_of s ∷ [])
         good_by e front x rest h spells (earlier between is tail) = first_begins front run (sample_of s) between is (spelled_begins front e spells)
         good_by e front x rest h spells (same is first tail) = absurd (broken_alone none e (subst (λ u. SpellsExpr nesting u e) (sym is) spells))
         good_by e front x rest h spells (later between is tail) = absurd (never_good front x between rest e is h)
 
-        can_good : (e : Expr) (rest front : List Token) → read size list ≡ reading.good e rest → list ≡ front ++ rest → SpellsExpr nesting front e → BeginsExpr nesting (run ++ sample_of s ∷ [])
+        can_good : (e : Expr) (rest front : List Token) → read size list ≡ reading.good e rest → list ≡ front ++ rest → SpellsExpr nesting front e → BeginsOf (ExprAt nesting) (run ++ sample_of s ∷ [])
         can_good e [] front h is spells = first_begins front run (sample_of s) (end_token ∷ []) (sym (append-nil front) ∙ sym is) (spelled_begins front e spells)
         can_good e (x ∷ rest) front h is spells = good_by e front x rest (ap (read size) (sym is) ∙ h) spells (parting run front (sample_of s) x (end_token ∷ []) rest is)
 
-        says_yes : (answer : Answer Expr) → read size list ≡ answer → is_taken answer ≡ true → BeginsExpr nesting (run ++ sample_of s ∷ [])
+        says_yes : (answer : Answer Expr) → read size list ≡ answer → is_taken answer ≡ true → BeginsOf (ExprAt nesting) (run ++ sample_of s ∷ [])
         unfolding is_taken
         says_yes (reading.good e rest) h taken = let g = good_spells size list e rest h in can_good e rest g.0 h g.1.0 g.1.1.0
         says_yes (reading.bad rest) h taken =
@@ -367,7 +368,7 @@ module _ (nesting : ℕ) where
         two_left front [] is two = absurd (omega (arith, two))
         two_left front (x ∷ rest) is two = two_by front x rest two (parting run front (sample_of s) x (end_token ∷ []) rest is)
 
-        says_no : (answer : Answer Expr) → read size list ≡ answer → is_taken answer ≡ false → BeginsExpr nesting (run ++ sample_of s ∷ []) → ⊥
+        says_no : (answer : Answer Expr) → read size list ≡ answer → is_taken answer ≡ false → BeginsOf (ExprAt nesting) (run ++ sample_of s ∷ []) → ⊥
         unfolding is_taken
         says_no (reading.good e rest) h taken b = not_true (sym taken)
         says_no (reading.bad rest) h taken b =
@@ -376,7 +377,7 @@ module _ (nesting : ℕ) where
             none_begins (At 0 nesting) 200 (Stops 0) read reads like [] nothing_stops size run (end_token ∷ []) (sample_of s) enough_list (h ∙ ap (λ u. reading.bad u) rest_is) (to_begins (run ++ sample_of s ∷ []) b)
         says_no (reading.deep rest) h taken b = not_true (sym taken)
 
-        tells : Tells (can_stand (read size) run s) (BeginsExpr nesting (run ++ sample_of s ∷ []))
+        tells : Tells (can_stand (read size) run s) (BeginsOf (ExprAt nesting) (run ++ sample_of s ∷ []))
         tells = record { yes_ = λ h. says_yes (read size list) refl h; no_ = λ h. says_no (read size list) refl h }
 
       -- ---- the fault
@@ -386,17 +387,17 @@ module _ (nesting : ℕ) where
       front_by front (same is first tail) = sym is
       front_by front (later between is tail) = absurd (omega (arith, ap length tail, length-append between (w ∷ behind)))
 
-      front_of_bad : Bad (At 0 nesting) 200 (run ++ w ∷ behind) (w ∷ behind) → (b : BeginsExpr nesting run) × AreShallow b.pieces
+      front_of_bad : Bad (At 0 nesting) 200 (run ++ w ∷ behind) (w ∷ behind) → (b : BeginsOf (ExprAt nesting) run) × AreShallow b.pieces
       front_of_bad b =
           let is : b.front ≡ run = front_by b.front (parting run b.front w w behind behind b.whole) in
-          (record { expr = b.tree; grammar = b.spelled.grammar; pieces = b.pieces; missing = b.missing; wants = sym b.spelled.wants; fits = subst (λ u. Fits b.pieces u) is b.fits }, to_shallow b.pieces b.shallow)
+          (record { tree = b.tree; pieces = b.pieces; missing = b.missing; spelled_ = record { grammar = b.spelled.grammar; wants = b.spelled.wants }; fits = subst (λ u. Fits b.pieces u) is b.fits }, to_shallow b.pieces b.shallow)
 
-      unread : (none : alone (read size) run ≡ None) → IsUnread nesting (run ++ w ∷ behind) run w (names_construct (can_stand (read size) run) run w)
+      unread : (none : alone (read size) run ≡ None) → IsUnreadRun nesting (run ++ w ∷ behind) run w (names_construct (can_stand (read size) run) run w)
       unread none =
           let b = front_of_bad ((reads size).bad (run ++ w ∷ behind) (w ∷ behind) bad) in
-          record { longest = longest_bad; begins = b.0; shallow = b.1; broken = broken_alone none; can = can_stand (read size) run; asked = tells none; names = refl }
+          record { unread = record { first = record { behind = behind; whole = refl; begins = b.0; shallow = b.1; none = longest_bad.none }; can = can_stand (read size) run; asked = tells none; names = refl }; broken = broken_alone none }
 
-      named_fault : (b : Bool) → IsUnread nesting (run ++ w ∷ behind) run w b → IsFaultOf nesting (run ++ w ∷ behind) (if b then fault.Construct (named_word w) w.place else fault.Expected w.place)
+      named_fault : (b : Bool) → IsUnreadRun nesting (run ++ w ∷ behind) run w b → IsFaultOf nesting (run ++ w ∷ behind) (if b then fault.Construct (named_word w) w.place else fault.Expected w.place)
       unfolding IsFaultOf
       named_fault true u = (run, (w, (u, refl, refl)))
       named_fault false u = (run, (w, (u, refl)))

@@ -5,14 +5,14 @@ use Rattle.c_tree.specs.declared.token.Place.{Place}
 use Rattle.c_tree.specs.declared.expressions.Expr.{Expr}
 use Rattle.c_tree.specs.declared.expressions.Expr.TheViews.{roll-Operand}
 use Rattle.c_tree.specs.declared.expressions.Operand.{Operand}
-use Rattle.c_tree.specs.declared.expressions.Operator.{Operator}
-use Rattle.c_expr.specs.declared.unread.Unread.{Unread}
-use Rattle.c_expr.specs.Reading.{Answer, good, Reader, after, ◌>>=◌, give, many, take_as}
+use Rattle.c_tree.specs.declared.expressions.BinaryOperator.{BinaryOperator}
+use Rattle.c_reader.specs.declared.unread.Unread.{Unread}
+use Rattle.c_reader.specs.Reading.{Answer, good, Reader, after, ◌>>=◌, give, many, take_as}
 use Rattle.c_expr.specs.Tokens.{is_operator, operator_at}
 use Rattle.c_expr.specs.Expressions.{Inner, read_chain, read_operand, read_unary, chained}
-use Rattle.c_expr.specs.Outcome.{Fails}
-use Rattle.c_expr.proofs.Failing.{fails_after, fails_as}
-use Rattle.c_expr.proofs.Gathering.{gathered, gathered_none}
+use Rattle.c_reader.specs.Outcome.{Fails}
+use Rattle.c_reader.proofs.Failing.{fails_after, fails_as}
+use Rattle.c_reader.proofs.Gathering.{gathered, gathered_none}
 
 -- the first operand, and then the others
 abbrev pub chained_all : Expr → Answer (List Operand) → Answer Expr
@@ -23,13 +23,13 @@ module _ (level left : ℕ) (read : Reader Expr) where
   unfolding read_operand
   operator_fails l new fault h = fails_after _ _ fault new h
 
-  pub value_fails : (l mid new : List Token) (found : Place × Operator) (fault : Unread) → take_as (is_operator level) operator_at left l ≡ good found mid → Fails (read mid) fault new → Fails (read_operand level left read l) fault new
+  pub value_fails : (l mid new : List Token) (found : Place × BinaryOperator) (fault : Unread) → take_as (is_operator level) operator_at left l ≡ good found mid → Fails (read mid) fault new → Fails (read_operand level left read l) fault new
   unfolding read_operand
   value_fails l mid new found fault e h =
       fails_as _ _ fault new (ap (λ r. after r (λ found. read >>= λ value. give (roll-Operand (record { place = found.0; operator = found.1; value = value })))) e)
       (fails_after (read mid) (λ value. give (roll-Operand (record { place = found.0; operator = found.1; value = value }))) fault new h)
 
-  pub operand_good : (l mid new : List Token) (found : Place × Operator) (value : Expr) → take_as (is_operator level) operator_at left l ≡ good found mid → read mid ≡ good value new → read_operand level left read l ≡ good (roll-Operand (record { place = found.0; operator = found.1; value = value })) new
+  pub operand_good : (l mid new : List Token) (found : Place × BinaryOperator) (value : Expr) → take_as (is_operator level) operator_at left l ≡ good found mid → read mid ≡ good value new → read_operand level left read l ≡ good (roll-Operand (record { place = found.0; operator = found.1; value = value })) new
   unfolding read_operand
   operand_good l mid new found value e h =
       ap (λ r. after r (λ found. read >>= λ value. give (roll-Operand (record { place = found.0; operator = found.1; value = value })))) e

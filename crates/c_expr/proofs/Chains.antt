@@ -6,44 +6,43 @@ use Rattle.std.proofs.lemmas.Bool.Decides.{eqb_tells}
 use Rattle.std.specs.List.{list_all}
 use Rattle.c_tree.specs.Pieces.{Piece, spelled, IsWanted, StandsAt, Takes, Fits, all_of}
 use Rattle.c_tree.specs.Operators.{text_of_operator, level_of}
-use Rattle.c_tree.specs.Expressions.{wants_of_expr, wants_of_operand}
-use Rattle.c_tree.specs.Grammar.{binds, operand_level}
+use Rattle.c_tree.specs.Folds.{wants_of_expr, wants_of_operand, binds, operand_level}
 use Rattle.c_tree.proofs.Cases.{cases_Expr, cases_Operand}
-use Rattle.c_tree.proofs.Wanted.{wants_Expr_Chain, wants_Operand}
-use Rattle.c_tree.proofs.Grammatical.{is_Expr_Name, is_Expr_Literal, is_Expr_Call, is_Expr_Group, is_Expr_Postfix, is_Expr_Prefix, is_Expr_Cast, is_Expr_Chain, is_Operand}
+use Rattle.c_tree.proofs.FoldsLaws.{wants_Expr_BinaryChain, wants_Operand, is_Expr_Name, is_Expr_Literal, is_Expr_Call, is_Expr_Parenthesized, is_Expr_Postfix, is_Expr_Unary, is_Expr_Cast, is_Expr_BinaryChain, is_Operand}
 use Rattle.c_tree.specs.declared.token.Place.{Place}
 use Rattle.c_tree.specs.declared.token.Token.{Token}
 use Rattle.c_tree.specs.declared.token.TokenKind.TheVariants.{Mark}
-use Rattle.c_tree.specs.declared.expressions.Operator.{Operator}
-use Rattle.c_tree.specs.declared.expressions.Operator.TheVariants as operator
+use Rattle.c_tree.specs.declared.expressions.BinaryOperator.{BinaryOperator}
+use Rattle.c_tree.specs.declared.expressions.BinaryOperator.TheVariants as operator
 use Rattle.c_tree.specs.declared.expressions.Operand.{Operand}
 use Rattle.c_tree.specs.declared.expressions.Expr.{Expr}
 use Rattle.c_tree.specs.declared.expressions.Expr.TheVariants as expr
 use Rattle.c_tree.specs.declared.expressions.Expr.TheViews.{roll-Operand}
-use Rattle.c_expr.specs.Reading.{Reader, ◌>>=◌, give, take_as, many}
-use Rattle.c_expr.specs.Tokens.{is_kind, is_operator, is_at_level, operators, operator_of, operator_at, found_of, found_by, found_in, suffix_by, goes_by, is_from_level, spelled_by}
+use Rattle.c_reader.specs.Reading.{Reader, ◌>>=◌, give, take_as, many}
+use Rattle.c_reader.specs.Tokens.{is_kind, found_of, found_by, found_in, spelled_by}
+use Rattle.c_expr.specs.Tokens.{is_operator, is_at_level, operators, operator_of, operator_at, suffix_by, goes_by, is_from_level}
 use Rattle.c_expr.specs.Expressions.{Inner, chained, read_operand, read_chain, read_unary}
-use Rattle.c_expr.proofs.Reader.{Language, Of, Reads}
-use Rattle.c_expr.proofs.Binding.{Both, bind_reads}
-use Rattle.c_expr.proofs.Giving.{Given, give_reads, reads_as}
-use Rattle.c_expr.proofs.Taking.{SingleIn, take_in_reads}
-use Rattle.c_expr.proofs.Choosing.{FirstIs}
-use Rattle.c_expr.proofs.Repeating.{Several, many_reads, given_stops, several_given_stops, some_list}
-use Rattle.c_expr.proofs.Beginning.{Begins, begins_both, some_both, some_given}
-use Rattle.c_expr.proofs.Joining.{in_both, in_given, onto, join2}
-use Rattle.c_expr.proofs.Listing.{all_to, all_from, list_all_map}
-use Rattle.c_expr.proofs.Spelt.{by_text, AreUnder, found_yes, found_is}
+use Rattle.c_reader.proofs.Reader.{Language, Of, Reads}
+use Rattle.c_reader.proofs.Binding.{Both, bind_reads}
+use Rattle.c_reader.proofs.Giving.{Given, give_reads, reads_as}
+use Rattle.c_reader.proofs.Taking.{SingleIn, take_in_reads}
+use Rattle.c_reader.proofs.Choosing.{FirstIs}
+use Rattle.c_reader.proofs.Repeating.{Several, many_reads, given_stops, several_given_stops, some_list}
+use Rattle.c_reader.proofs.Beginning.{Begins, begins_both, some_both, some_given}
+use Rattle.c_reader.proofs.Joining.{in_both, in_given, onto, join2}
+use Rattle.c_reader.proofs.Listing.{all_to, all_from, list_all_map}
+use Rattle.c_reader.proofs.Spelt.{by_text, AreUnder, found_yes, found_is}
 use Rattle.c_expr.proofs.Starting.{begins_cons, conditional_parts}
 use Rattle.c_expr.proofs.Suffixes.{At, Stops, Any, InnerReads, some_at}
 use Rattle.c_expr.proofs.Unaries.{lower_to, unary_reads}
-use Rattle.c_expr.proofs.Truths.{not_true, and_left, and_right, and_both, or_left, or_right, or_none}
+use Rattle.c_reader.proofs.Truths.{not_true, and_left, and_right, and_both, or_left, or_right, or_none}
 
 -- ---- operators as tokens
 
-operator_facts : (o : Operator) → (suffix_by Mark (text_of_operator o) ≡ false) × (spelled_by Mark (codes "(") Mark (text_of_operator o) ≡ false) × (found_by Mark operators Mark (text_of_operator o) ≡ Some o) × (spelled_by Mark (codes "?") Mark (text_of_operator o) ≡ false)
+operator_facts : (o : BinaryOperator) → (suffix_by Mark (text_of_operator o) ≡ false) × (spelled_by Mark (codes "(") Mark (text_of_operator o) ≡ false) × (found_by Mark operators Mark (text_of_operator o) ≡ Some o) × (spelled_by Mark (codes "?") Mark (text_of_operator o) ≡ false)
 unfolding suffix_by spelled_by found_by found_in
-operator_facts operator.OrElse = (refl, refl, refl, refl)
-operator_facts operator.AndThen = (refl, refl, refl, refl)
+operator_facts operator.LogicalOr = (refl, refl, refl, refl)
+operator_facts operator.LogicalAnd = (refl, refl, refl, refl)
 operator_facts operator.Or = (refl, refl, refl, refl)
 operator_facts operator.Xor = (refl, refl, refl, refl)
 operator_facts operator.And = (refl, refl, refl, refl)
@@ -61,10 +60,10 @@ operator_facts operator.Multiply = (refl, refl, refl, refl)
 operator_facts operator.Divide = (refl, refl, refl, refl)
 operator_facts operator.Remainder = (refl, refl, refl, refl)
 
-found_operator : (o : Operator) → found_in operators (text_of_operator o) ≡ Some o
+found_operator : (o : BinaryOperator) → found_in operators (text_of_operator o) ≡ Some o
 unfolding found_in
-found_operator operator.OrElse = refl
-found_operator operator.AndThen = refl
+found_operator operator.LogicalOr = refl
+found_operator operator.LogicalAnd = refl
 found_operator operator.Or = refl
 found_operator operator.Xor = refl
 found_operator operator.And = refl
@@ -86,7 +85,7 @@ under_operators : AreUnder text_of_operator operators
 unfolding AreUnder
 under_operators = (refl, (refl, (refl, (refl, (refl, (refl, (refl, (refl, (refl, (refl, (refl, (refl, (refl, (refl, (refl, (refl, (refl, (refl, tt))))))))))))))))))
 
-some_operator : (k : ℕ) → k ≤ 9 → (o : Operator) × (level_of o ≡ 10 - k)
+some_operator : (k : ℕ) → k ≤ 9 → (o : BinaryOperator) × (level_of o ≡ 10 - k)
 some_operator zero few = (operator.Multiply, refl)
 some_operator (suc zero) few = (operator.Add, refl)
 some_operator (suc (suc zero)) few = (operator.ShiftLeft, refl)
@@ -95,11 +94,11 @@ some_operator (suc (suc (suc (suc zero)))) few = (operator.Equal, refl)
 some_operator (suc (suc (suc (suc (suc zero))))) few = (operator.And, refl)
 some_operator (suc (suc (suc (suc (suc (suc zero)))))) few = (operator.Xor, refl)
 some_operator (suc (suc (suc (suc (suc (suc (suc zero))))))) few = (operator.Or, refl)
-some_operator (suc (suc (suc (suc (suc (suc (suc (suc zero)))))))) few = (operator.AndThen, refl)
-some_operator (suc (suc (suc (suc (suc (suc (suc (suc (suc zero))))))))) few = (operator.OrElse, refl)
+some_operator (suc (suc (suc (suc (suc (suc (suc (suc zero)))))))) few = (operator.LogicalAnd, refl)
+some_operator (suc (suc (suc (suc (suc (suc (suc (suc (suc zero))))))))) few = (operator.LogicalOr, refl)
 some_operator (suc (suc (suc (suc (suc (suc (suc (suc (suc (suc k)))))))))) few = absurd (omega (arith, few))
 
-abbrev pub operator_piece : ℕ → Place × Operator → Piece
+abbrev pub operator_piece : ℕ → Place × BinaryOperator → Piece
 operator_piece n found = record { nesting = n; place = Some found.0; want = spelled Mark (text_of_operator found.1) }
 
 same_level : (a b : ℕ) → a ≡ b → (a == b) ≡ true
@@ -118,17 +117,17 @@ unequal_of a b (inr h) differ = h.0
 unequal : (a b : ℕ) → (a ≡ b → ⊥) → (a == b) ≡ false
 unequal a b differ = unequal_of a b (eqb_tells a b) differ
 
-module _ (l : ℕ) (low : 1 ≤ l) (high : l ≤ 10) (o : Operator) (o_at : level_of o ≡ l) where
-  abbrev pub InLevel : Place × Operator → Type 0
+module _ (l : ℕ) (low : 1 ≤ l) (high : l ≤ 10) (o : BinaryOperator) (o_at : level_of o ≡ l) where
+  abbrev pub InLevel : Place × BinaryOperator → Type 0
   InLevel found = level_of found.1 ≡ l
 
-  operator_yes : (found : Place × Operator) (w : Token) → InLevel found → Takes (operator_piece 0 found) w → (is_operator l w ≡ true) × (operator_at w ≡ found)
+  operator_yes : (found : Place × BinaryOperator) (w : Token) → InLevel found → Takes (operator_piece 0 found) w → (is_operator l w ≡ true) × (operator_at w ≡ found)
   unfolding IsWanted StandsAt operator_of
   operator_yes found w inside takes =
       let is : operator_of w ≡ Some found.1 = found_yes Mark operators w (text_of_operator found.1) found.1 takes.0.0 takes.0.1 (found_operator found.1) in
       (ap (is_at_level l) is ∙ same_level (level_of found.1) l inside, ap (λ p. (p, unwrap_or (operator_of w) operator.Add)) takes.1 ∙ ap (λ u. (found.0, unwrap_or u operator.Add)) is)
 
-  operator_some : (w : Token) (found : Option Operator) → operator_of w ≡ found → is_at_level l found ≡ true → ((w.kind ≡ Mark) × (w.text ≡ text_of_operator (unwrap_or found operator.Add))) × (level_of (unwrap_or found operator.Add) ≡ l)
+  operator_some : (w : Token) (found : Option BinaryOperator) → operator_of w ≡ found → is_at_level l found ≡ true → ((w.kind ≡ Mark) × (w.text ≡ text_of_operator (unwrap_or found operator.Add))) × (level_of (unwrap_or found operator.Add) ≡ l)
   unfolding operator_of
   operator_some w None is at = absurd (not_true at)
   operator_some w (Some p) is at = (found_is Mark text_of_operator operators w p under_operators is, level_is (level_of p) l at)
@@ -194,7 +193,7 @@ module _ (l : ℕ) (low : 1 ≤ l) (high : l ≤ 10) (o : Operator) (o_at : leve
   not_zero : (k : ℕ) → 1 ≤ k → (k == 0) ≡ false
   not_zero k some = unequal k 0 (λ h. omega (arith, some, h))
 
-  goes_by_operator : (p : Operator) → level_of p ≡ l → goes_by (l + 1) Mark (text_of_operator p) ≡ false
+  goes_by_operator : (p : BinaryOperator) → level_of p ≡ l → goes_by (l + 1) Mark (text_of_operator p) ≡ false
   unfolding goes_by
   goes_by_operator p at =
       let f = operator_facts p in
@@ -207,7 +206,7 @@ module _ (l : ℕ) (low : 1 ≤ l) (high : l ≤ 10) (o : Operator) (o_at : leve
       let found = operator_some w (operator_of w) refl h in
       by_text (goes_by (l + 1)) Mark (text_of_operator (unwrap_or (operator_of w) operator.Add)) false w found.0.0 found.0.1 (goes_by_operator (unwrap_or (operator_of w) operator.Add) found.1)
 
-  from_higher : (found : Option Operator) → is_from_level l found ≡ false → is_from_level (l + 1) found ≡ false
+  from_higher : (found : Option BinaryOperator) → is_from_level l found ≡ false → is_from_level (l + 1) found ≡ false
   from_higher None h = refl
   from_higher (Some p) h = lt-leb (l + 1) (level_of p) (omega (arith, leb-false l (level_of p) h))
 
@@ -220,7 +219,7 @@ module _ (l : ℕ) (low : 1 ≤ l) (high : l ≤ 10) (o : Operator) (o_at : leve
       or_none _ _ (or_none _ _ two (from_higher (found_by Mark operators w.kind w.text) (or_right _ (is_from_level l (found_by Mark operators w.kind w.text)) three)))
       (ap (λ u. u && spelled_by Mark (codes "?") w.kind w.text) (not_zero (l + 1) (omega arith)))
 
-  at_no_level : (found : Option Operator) → is_from_level l found ≡ false → is_at_level l found ≡ false
+  at_no_level : (found : Option BinaryOperator) → is_from_level l found ≡ false → is_at_level l found ≡ false
   at_no_level None h = refl
   at_no_level (Some p) h = unequal (level_of p) l (λ e. omega (arith, leb-false l (level_of p) h, e))
 
@@ -237,7 +236,7 @@ module _ (l : ℕ) (low : 1 ≤ l) (high : l ≤ 10) (o : Operator) (o_at : leve
   abbrev pub ChainL : ℕ → Language Expr
   ChainL n = Both (At (l + 1) n) (λ first. Both (OperandsL n) (λ rest. Given (chained first rest)))
 
-  begins_in : (n : ℕ) (found : Place × Operator) (ps : List Piece) (front rest : List Token) → SingleIn InLevel (operator_piece n) found ps → Fits ps front → FirstIs (is_operator l) true (front ++ rest)
+  begins_in : (n : ℕ) (found : Place × BinaryOperator) (ps : List Piece) (front rest : List Token) → SingleIn InLevel (operator_piece n) found ps → Fits ps front → FirstIs (is_operator l) true (front ++ rest)
   unfolding Fits FirstIs
   begins_in n found ps front rest single fits = begins_cons (operator_piece n found) (is_operator l) true (λ w takes. (operator_yes found w single.within takes).0) ps [] front rest single.one fits
 
@@ -276,11 +275,11 @@ module _ (l : ℕ) (low : 1 ≤ l) (high : l ≤ 10) (o : Operator) (o_at : leve
   chained_at n first [] h all = (lower_to l (l + 1) (omega arith) first h, sym (append-nil (wants_of_expr first n)))
   chained_at n first (o1 ∷ rest) h all =
       let at : (operand_level o1).level ≡ l = head_level o1 rest all in (
-        ap (λ f. f l) (is_Expr_Chain first (o1 ∷ rest))
+        ap (λ f. f l) (is_Expr_BinaryChain first (o1 ∷ rest))
             ∙ and_both (nat_le l (operand_level o1).level && binds first ((operand_level o1).level + 1)) _
             (and_both (nat_le l (operand_level o1).level) (binds first ((operand_level o1).level + 1)) (le-leb l (operand_level o1).level (omega (arith, at))) (subst (λ u. binds first (u + 1) ≡ true) (sym at) h))
             (subst (λ u. list_all (λ p. (p.level == u) && p.value (p.level + 1)) (map operand_level (o1 ∷ rest)) ≡ true) (sym at) (all_same (o1 ∷ rest) all)),
-        ap (λ f. f n) (wants_Expr_Chain first (o1 ∷ rest)),
+        ap (λ f. f n) (wants_Expr_BinaryChain first (o1 ∷ rest)),
       )
 
   chain_to : (n : ℕ) (e : Expr) (ps : List Piece) → ChainL n e ps → At l n e ps
@@ -309,24 +308,24 @@ module _ (l : ℕ) (low : 1 ≤ l) (high : l ≤ 10) (o : Operator) (o_at : leve
   raised : (n : ℕ) (e : Expr) (ps : List Piece) (g : ℕ → Bool) → binds e ≡ g → (g l ≡ true → g (l + 1) ≡ true) → At l n e ps → ChainL n e ps
   raised n e ps g is step at = alone n e ps (record { grammar = ap (λ f. f (l + 1)) is ∙ step (sym (ap (λ f. f l) is) ∙ at.grammar); wants = at.wants })
 
-  of_chain_at : (n : ℕ) (first : Expr) (o1 : Operand) (rest : List Operand) (ps : List Piece) → At l n (expr.Chain first (o1 ∷ rest)) ps → ((operand_level o1).level ≡ l) ⊎ (l + 1 ≤ (operand_level o1).level) → ChainL n (expr.Chain first (o1 ∷ rest)) ps
+  of_chain_at : (n : ℕ) (first : Expr) (o1 : Operand) (rest : List Operand) (ps : List Piece) → At l n (expr.BinaryChain first (o1 ∷ rest)) ps → ((operand_level o1).level ≡ l) ⊎ (l + 1 ≤ (operand_level o1).level) → ChainL n (expr.BinaryChain first (o1 ∷ rest)) ps
   of_chain_at n first o1 rest ps at (inl same) =
-      let h = sym (ap (λ f. f l) (is_Expr_Chain first (o1 ∷ rest))) ∙ at.grammar in
+      let h = sym (ap (λ f. f l) (is_Expr_BinaryChain first (o1 ∷ rest))) ∙ at.grammar in
       let left = and_left (nat_le l (operand_level o1).level && binds first ((operand_level o1).level + 1)) _ h in
       let first_binds : binds first (l + 1) ≡ true = subst (λ u. binds first (u + 1) ≡ true) same (and_right (nat_le l (operand_level o1).level) (binds first ((operand_level o1).level + 1)) left) in
       let all : list_all operand_ok (o1 ∷ rest) ≡ true =
       sym (list_all_map operand_level (λ p. (p.level == l) && p.value (p.level + 1)) (o1 ∷ rest))
       ∙ subst (λ u. list_all (λ p. (p.level == u) && p.value (p.level + 1)) (map operand_level (o1 ∷ rest)) ≡ true) same (and_right (nat_le l (operand_level o1).level && binds first ((operand_level o1).level + 1)) _ h) in
-      subst (λ u. ChainL n (expr.Chain first (o1 ∷ rest)) u)
-      (ap (λ u. wants_of_expr first n ++ u) (append-nil (all_of (map wants_of_operand (o1 ∷ rest)) n)) ∙ sym (ap (λ f. f n) (wants_Expr_Chain first (o1 ∷ rest))) ∙ sym at.wants)
+      subst (λ u. ChainL n (expr.BinaryChain first (o1 ∷ rest)) u)
+      (ap (λ u. wants_of_expr first n ++ u) (append-nil (all_of (map wants_of_operand (o1 ∷ rest)) n)) ∙ sym (ap (λ f. f n) (wants_Expr_BinaryChain first (o1 ∷ rest))) ∙ sym at.wants)
       (in_both _ _ _ _ _ first (record { grammar = first_binds; wants = refl })
-      (in_both _ _ _ _ _ (o1 ∷ rest) (all_from operand_ok wants_of_operand n (o1 ∷ rest) (all_of (map wants_of_operand (o1 ∷ rest)) n) (record { grammar = all; wants = refl })) (in_given (expr.Chain first (o1 ∷ rest)))))
-  of_chain_at n first o1 rest ps at (inr higher) = raised n (expr.Chain first (o1 ∷ rest)) ps _ (is_Expr_Chain first (o1 ∷ rest)) (raise3 (operand_level o1).level _ _ higher) at
+      (in_both _ _ _ _ _ (o1 ∷ rest) (all_from operand_ok wants_of_operand n (o1 ∷ rest) (all_of (map wants_of_operand (o1 ∷ rest)) n) (record { grammar = all; wants = refl })) (in_given (expr.BinaryChain first (o1 ∷ rest)))))
+  of_chain_at n first o1 rest ps at (inr higher) = raised n (expr.BinaryChain first (o1 ∷ rest)) ps _ (is_Expr_BinaryChain first (o1 ∷ rest)) (raise3 (operand_level o1).level _ _ higher) at
 
-  of_chain : (n : ℕ) (first : Expr) (operands : List Operand) (ps : List Piece) → At l n (expr.Chain first operands) ps → ChainL n (expr.Chain first operands) ps
-  of_chain n first [] ps at = absurd (not_true (sym (ap (λ f. f l) (is_Expr_Chain first [])) ∙ at.grammar))
+  of_chain : (n : ℕ) (first : Expr) (operands : List Operand) (ps : List Piece) → At l n (expr.BinaryChain first operands) ps → ChainL n (expr.BinaryChain first operands) ps
+  of_chain n first [] ps at = absurd (not_true (sym (ap (λ f. f l) (is_Expr_BinaryChain first [])) ∙ at.grammar))
   of_chain n first (o1 ∷ rest) ps at =
-      let h = sym (ap (λ f. f l) (is_Expr_Chain first (o1 ∷ rest))) ∙ at.grammar in
+      let h = sym (ap (λ f. f l) (is_Expr_BinaryChain first (o1 ∷ rest))) ∙ at.grammar in
       let left = and_left (nat_le l (operand_level o1).level && binds first ((operand_level o1).level + 1)) _ h in
       of_chain_at n first o1 rest ps at (equal_or_more l (operand_level o1).level (leb-true l (operand_level o1).level (and_left (nat_le l (operand_level o1).level) (binds first ((operand_level o1).level + 1)) left)))
 
@@ -335,9 +334,9 @@ module _ (l : ℕ) (low : 1 ≤ l) (high : l ≤ 10) (o : Operator) (o_at : leve
       (λ named ps at. raised n _ ps _ (is_Expr_Name named) (λ h. le-leb (l + 1) 13 (omega (arith, high))) at)
       (λ place value ps at. raised n _ ps _ (is_Expr_Literal place value) (λ h. le-leb (l + 1) 13 (omega (arith, high))) at)
       (λ named place arguments ps at. raised n _ ps _ (is_Expr_Call named place arguments) (raise2 13 _ (omega (arith, high))) at)
-      (λ place inner ps at. raised n _ ps _ (is_Expr_Group place inner) (raise2 13 _ (omega (arith, high))) at)
+      (λ place inner ps at. raised n _ ps _ (is_Expr_Parenthesized place inner) (raise2 13 _ (omega (arith, high))) at)
       (λ primary suffixes ps at. raised n _ ps _ (is_Expr_Postfix primary suffixes) (raise4 12 _ _ _ (omega (arith, high))) at)
-      (λ place o1 operand ps at. raised n _ ps _ (is_Expr_Prefix place o1 operand) (raise2 11 _ (omega (arith, high))) at)
+      (λ place o1 operand ps at. raised n _ ps _ (is_Expr_Unary place o1 operand) (raise2 11 _ (omega (arith, high))) at)
       (λ place specs operand ps at. raised n _ ps _ (is_Expr_Cast place specs operand) (raise3 11 _ _ (omega (arith, high))) at)
       (λ first operands ps at. of_chain n first operands ps at)
       (λ condition place second third ps at. absurd (omega (arith, low, (conditional_parts condition place second third l at.grammar).0)))

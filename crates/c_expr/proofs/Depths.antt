@@ -1,12 +1,12 @@
 -- How many levels of nesting readers have left.
 use Rattle.std.proofs.Common.{◌≡◌, ◌<◌, ℕ, zero, suc, ◌-◌, List, Result, refl, sym, ap, subst, ◌∙◌, arith}
 use Rattle.c_tree.specs.declared.token.Token.{Token}
-use Rattle.c_expr.specs.declared.unread.Unread.{Unread}
-use Rattle.c_expr.specs.Reading.{Reader}
+use Rattle.c_reader.specs.declared.unread.Unread.{Unread}
+use Rattle.c_reader.specs.Reading.{Reader}
 use Rattle.c_expr.specs.Expressions.{read_unary, read_expr}
 use Rattle.c_expr.specs.Types.{read_specs}
 use Rattle.c_expr.specs.Levels.{readers_at, no_expr, no_specs}
-use Rattle.c_expr.specs.Outcome.{Fails, Gives}
+use Rattle.c_reader.specs.Outcome.{Fails, Gives}
 
 pub left_of : (size n : ℕ) → (readers_at size n).left ≡ n
 unfolding readers_at

@@ -2,32 +2,32 @@
 use Rattle.std.proofs.Common.{◌≡◌, ◌<◌, ℕ, ◌+◌, true, false, List, [], ◌∷◌, ◌++◌, length, map, Option, Some, None, option_map, refl, sym, ap, ◌∙◌, subst, arith, codes}
 use Rattle.std.proofs.lemmas.List.{append-nil, length-append}
 use Rattle.c_tree.specs.Pieces.{Piece, IsWanted, all_of, optional, name}
-use Rattle.c_tree.specs.Expressions.{wants_of_expr, wants_of_dimensioned, wants_of_dimension}
-use Rattle.c_tree.specs.Grammar.{binds, is_optional, is_dimensioned_tree, is_dimension_tree}
-use Rattle.c_tree.proofs.Cases.{cases_Dimensioned, cases_Dimension}
-use Rattle.c_tree.proofs.Wanted.{wants_Dimensioned, wants_Dimension}
-use Rattle.c_tree.proofs.Grammatical.{is_Dimensioned, is_Dimension}
+use Rattle.c_tree.specs.Folds.{wants_of_expr, wants_of_dimensioned, wants_of_dimension, binds, is_dimensioned_tree, is_dimension_tree}
+use Rattle.c_tree.specs.Types.{is_optional}
+use Rattle.c_tree.proofs.Cases.{cases_StructDeclarator, cases_Dimension}
+use Rattle.c_tree.proofs.FoldsLaws.{wants_StructDeclarator, wants_Dimension, is_StructDeclarator, is_Dimension}
 use Rattle.c_tree.specs.declared.token.Place.{Place}
 use Rattle.c_tree.specs.declared.token.Token.{Token}
 use Rattle.c_tree.specs.declared.token.TokenKind.TheVariants.{Name, Mark}
-use Rattle.c_tree.specs.declared.expressions.Named.{Named}
+use Rattle.c_tree.specs.declared.expressions.Identifier.{Identifier}
 use Rattle.c_tree.specs.declared.expressions.Expr.{Expr}
-use Rattle.c_tree.specs.declared.expressions.Expr.TheViews.{roll-Dimensioned, roll-Dimension}
-use Rattle.c_tree.specs.declared.expressions.Dimensioned.{Dimensioned}
+use Rattle.c_tree.specs.declared.expressions.Expr.TheViews.{roll-StructDeclarator, roll-Dimension}
+use Rattle.c_tree.specs.declared.expressions.StructDeclarator.{StructDeclarator}
 use Rattle.c_tree.specs.declared.expressions.Dimension.{Dimension}
-use Rattle.c_expr.specs.Reading.{Reader, ◌>>=◌, give}
-use Rattle.c_expr.specs.Tokens.{is_mark, is_kind, is_spelled, goes_by, suffix_by, spelled_by, found_by, found_in}
+use Rattle.c_reader.specs.Reading.{Reader, ◌>>=◌, give}
+use Rattle.c_reader.specs.Tokens.{is_mark, is_kind, is_spelled, spelled_by, found_by, found_in}
+use Rattle.c_expr.specs.Tokens.{goes_by, suffix_by}
 use Rattle.c_expr.specs.Types.{read_size, read_dimension, read_dimensions, read_dimensioned}
-use Rattle.c_expr.proofs.Reader.{Language, Of, Reads}
-use Rattle.c_expr.proofs.Binding.{Both, bind_reads}
-use Rattle.c_expr.proofs.Giving.{Given, give_reads, reads_as}
-use Rattle.c_expr.proofs.Taking.{Single}
-use Rattle.c_expr.proofs.Choosing.{FirstIs, Either, this, that, choose_reads}
-use Rattle.c_expr.proofs.Repeating.{many_reads, given_stops}
-use Rattle.c_expr.proofs.Beginning.{Begins, begins_both, begins_single, SomeOf, some_both, some_single, some_given}
-use Rattle.c_expr.proofs.Joining.{in_both, in_single, in_given, onto, join2, join3}
-use Rattle.c_expr.proofs.Listing.{AllOf, all_to, all_from, list_all_map}
-use Rattle.c_expr.proofs.Spelt.{spelled_yes, spelt, spelt_at, named, spelt_reads, spelt_at_reads, named_reads}
+use Rattle.c_reader.proofs.Reader.{Language, Of, Reads}
+use Rattle.c_reader.proofs.Binding.{Both, bind_reads}
+use Rattle.c_reader.proofs.Giving.{Given, give_reads, reads_as}
+use Rattle.c_reader.proofs.Taking.{Single}
+use Rattle.c_reader.proofs.Choosing.{FirstIs, Either, this, that, choose_reads}
+use Rattle.c_reader.proofs.Repeating.{many_reads, given_stops}
+use Rattle.c_reader.proofs.Beginning.{Begins, begins_both, begins_single, SomeOf, some_both, some_single, some_given}
+use Rattle.c_reader.proofs.Joining.{in_both, in_single, in_given, onto, join2, join3}
+use Rattle.c_reader.proofs.Listing.{AllOf, all_to, all_from, list_all_map}
+use Rattle.c_reader.proofs.Spelt.{spelled_yes, spelt, spelt_at, named, spelt_reads, spelt_at_reads, named_reads}
 use Rattle.c_expr.proofs.Starting.{Suits, begins_at}
 use Rattle.c_expr.proofs.Suffixes.{At, Stops, Any, no_name}
 use Rattle.c_expr.proofs.Primaries.{first_from, prefix_all}
@@ -36,7 +36,7 @@ use Rattle.c_expr.proofs.Primaries.{first_from, prefix_all}
 abbrev pub DimensionAt : ℕ → Language Dimension
 DimensionAt n = Of is_dimension_tree (λ d. wants_of_dimension d n)
 
-abbrev pub DimensionedAt : ℕ → Language Dimensioned
+abbrev pub DimensionedAt : ℕ → Language StructDeclarator
 DimensionedAt n = Of is_dimensioned_tree (λ d. wants_of_dimensioned d n)
 
 abbrev pub StopsDimensions : List Token → Type 0
@@ -143,41 +143,41 @@ module _ (most size n left : ℕ) (level : n + left ≡ most + 1) (read : Reader
   unfolding all_of
   some_dimensions = ([], ([], record { grammar = refl; wants = refl }))
 
-  abbrev DimensionedL : Language Dimensioned
-  DimensionedL = Both (Single (named Name n)) (λ name. Both DimensionsAt (λ dimensions. Given (roll-Dimensioned (record { name = name; dimensions = dimensions }))))
+  abbrev DimensionedL : Language StructDeclarator
+  DimensionedL = Both (Single (named Name n)) (λ name. Both DimensionsAt (λ dimensions. Given (roll-StructDeclarator (record { name = name; dimensions = dimensions }))))
 
   dimensioned_read : Reads DimensionedL most size StopsDimensions (read_dimensioned size left read)
   unfolding read_dimensioned
   dimensioned_read =
       bind_reads _ _ most size Any StopsDimensions _ _ (named_reads most size Any Name n left level)
-      (λ name. bind_reads _ _ most size StopsDimensions StopsDimensions _ _ dimensions_reads (λ dimensions. give_reads (roll-Dimensioned (record { name = name; dimensions = dimensions })) most size StopsDimensions)
+      (λ name. bind_reads _ _ most size StopsDimensions StopsDimensions _ _ dimensions_reads (λ dimensions. give_reads (roll-StructDeclarator (record { name = name; dimensions = dimensions })) most size StopsDimensions)
       (λ dimensions ps is. some_given _)
-      (λ dimensions c qs ys rest is fits stop. given_stops (roll-Dimensioned (record { name = name; dimensions = dimensions })) c qs ys rest StopsDimensions is fits stop))
-      (λ name ps is. some_both _ _ some_dimensions (λ dimensions. some_given (roll-Dimensioned (record { name = name; dimensions = dimensions }))))
+      (λ dimensions c qs ys rest is fits stop. given_stops (roll-StructDeclarator (record { name = name; dimensions = dimensions })) c qs ys rest StopsDimensions is fits stop))
+      (λ name ps is. some_both _ _ some_dimensions (λ dimensions. some_given (roll-StructDeclarator (record { name = name; dimensions = dimensions }))))
       (λ name c qs ys rest is fits stop. tt)
 
-  dimensioned_flat : (name : Named) (dimensions : List Dimension) → (named Name n name ∷ []) ++ (all_of (map wants_of_dimension dimensions) n ++ []) ≡ wants_of_dimensioned (roll-Dimensioned (record { name = name; dimensions = dimensions })) n
-  dimensioned_flat name dimensions = join2 (named Name n name ∷ []) (all_of (map wants_of_dimension dimensions) n) ∙ sym (ap (λ f. f n) (wants_Dimensioned name dimensions))
+  dimensioned_flat : (name : Identifier) (dimensions : List Dimension) → (named Name n name ∷ []) ++ (all_of (map wants_of_dimension dimensions) n ++ []) ≡ wants_of_dimensioned (roll-StructDeclarator (record { name = name; dimensions = dimensions })) n
+  dimensioned_flat name dimensions = join2 (named Name n name ∷ []) (all_of (map wants_of_dimension dimensions) n) ∙ sym (ap (λ f. f n) (wants_StructDeclarator name dimensions))
 
-  dimensioned_to : (d : Dimensioned) (ps : List Piece) → DimensionedL d ps → DimensionedAt n d ps
+  dimensioned_to : (d : StructDeclarator) (ps : List Piece) → DimensionedL d ps → DimensionedAt n d ps
   dimensioned_to d ps b =
-      let is : d ≡ roll-Dimensioned (record { name = b.first; dimensions = b.right.first }) = b.right.right.tree_is in
+      let is : d ≡ roll-StructDeclarator (record { name = b.first; dimensions = b.right.first }) = b.right.right.tree_is in
       record {
-        grammar = ap is_dimensioned_tree is ∙ is_Dimensioned b.first b.right.first ∙ list_all_map is_dimension_tree (λ u. u) b.right.first ∙ b.right.left.grammar;
+        grammar = ap is_dimensioned_tree is ∙ is_StructDeclarator b.first b.right.first ∙ list_all_map is_dimension_tree (λ u. u) b.right.first ∙ b.right.left.grammar;
         wants = onto b.whole b.left.one (onto b.right.whole b.right.left.wants b.right.right.none) ∙ dimensioned_flat b.first b.right.first ∙ ap (λ u. wants_of_dimensioned u n) (sym is);
       }
 
-  dimensioned_from : (d : Dimensioned) (ps : List Piece) → DimensionedAt n d ps → DimensionedL d ps
-  dimensioned_from = cases_Dimensioned (λ d. (ps : List Piece) → DimensionedAt n d ps → DimensionedL d ps)
+  dimensioned_from : (d : StructDeclarator) (ps : List Piece) → DimensionedAt n d ps → DimensionedL d ps
+  dimensioned_from = cases_StructDeclarator (λ d. (ps : List Piece) → DimensionedAt n d ps → DimensionedL d ps)
       (λ name dimensions ps is.
-      subst (λ u. DimensionedL (roll-Dimensioned (record { name = name; dimensions = dimensions })) u) (dimensioned_flat name dimensions ∙ sym is.wants)
+      subst (λ u. DimensionedL (roll-StructDeclarator (record { name = name; dimensions = dimensions })) u) (dimensioned_flat name dimensions ∙ sym is.wants)
       (in_both _ _ _ _ _ name (in_single (named Name n) name)
-      (in_both _ _ _ _ _ dimensions (record { grammar = sym (list_all_map is_dimension_tree (λ u. u) dimensions) ∙ sym (is_Dimensioned name dimensions) ∙ is.grammar; wants = refl }) (in_given (roll-Dimensioned (record { name = name; dimensions = dimensions }))))))
+      (in_both _ _ _ _ _ dimensions (record { grammar = sym (list_all_map is_dimension_tree (λ u. u) dimensions) ∙ sym (is_StructDeclarator name dimensions) ∙ is.grammar; wants = refl }) (in_given (roll-StructDeclarator (record { name = name; dimensions = dimensions }))))))
 
   pub dimensioned_reads : Reads (DimensionedAt n) most size StopsDimensions (read_dimensioned size left read)
   dimensioned_reads = reads_as dimensioned_to dimensioned_from dimensioned_read
 
   pub some_dimensioned : SomeOf (DimensionedAt n)
   some_dimensioned =
-      let x = some_both (Single (named Name n)) (λ name. Both DimensionsAt (λ dimensions. Given (roll-Dimensioned (record { name = name; dimensions = dimensions })))) (some_single (named Name n) no_name) (λ name. some_both _ _ some_dimensions (λ dimensions. some_given (roll-Dimensioned (record { name = name; dimensions = dimensions })))) in
+      let x = some_both (Single (named Name n)) (λ name. Both DimensionsAt (λ dimensions. Given (roll-StructDeclarator (record { name = name; dimensions = dimensions })))) (some_single (named Name n) no_name) (λ name. some_both _ _ some_dimensions (λ dimensions. some_given (roll-StructDeclarator (record { name = name; dimensions = dimensions })))) in
       (x.0, (x.1.0, dimensioned_to x.0 x.1.0 x.1.1))

@@ -3,35 +3,39 @@ use Rattle.std.proofs.Common.{◌≡◌, ◌≤◌, ℕ, zero, suc, ◌+◌, Boo
 use Rattle.std.proofs.lemmas.List.{append_assoc, append-nil, length-append}
 use Rattle.std.specs.List.{list_all}
 use Rattle.c_tree.specs.Pieces.{Piece, IsWanted, Fits, separated, mark, name}
-use Rattle.c_tree.specs.Expressions.{wants_of_expr, wants_of_enumerator, enum_body, comma_if, value_wants}
-use Rattle.c_tree.specs.Grammar.{binds, has_some, is_optional, is_enumerator_tree}
+use Rattle.c_tree.specs.Folds.{wants_of_expr, wants_of_enumerator, binds, is_enumerator_tree}
+use Rattle.c_tree.specs.Types.{enum_body, comma_if, value_wants, is_optional}
+use Rattle.c_tree.specs.Expressions.{has_some}
 use Rattle.c_tree.proofs.Cases.{cases_Enumerator}
-use Rattle.c_tree.proofs.Wanted.{wants_Enumerator}
-use Rattle.c_tree.proofs.Grammatical.{is_Enumerator}
+use Rattle.c_tree.proofs.FoldsLaws.{wants_Enumerator, is_Enumerator}
 use Rattle.c_tree.specs.declared.token.Token.{Token}
+use Rattle.c_tree.specs.declared.expressions.TrailingComma.{TrailingComma}
+use Rattle.c_tree.specs.declared.expressions.TrailingComma.TheVariants.{Absent, Present}
 use Rattle.c_tree.specs.declared.token.TokenKind.{TokenKind}
 use Rattle.c_tree.specs.declared.token.TokenKind.TheVariants.{Name, Mark}
-use Rattle.c_tree.specs.declared.expressions.Named.{Named}
+use Rattle.c_tree.specs.declared.expressions.Identifier.{Identifier}
 use Rattle.c_tree.specs.declared.expressions.Expr.{Expr}
 use Rattle.c_tree.specs.declared.expressions.Expr.TheViews.{roll-Enumerator}
 use Rattle.c_tree.specs.declared.expressions.Enumerator.{Enumerator}
-use Rattle.c_expr.specs.Reading.{Reader, ◌>>=◌, give, choose}
-use Rattle.c_expr.specs.Tokens.{kind_number, is_mark, is_kind, is_spelled, goes_by, suffix_by, spelled_by, found_by, found_in, read_mark}
-use Rattle.c_expr.specs.Types.{read_more, read_value, read_enumerator, read_enum_body}
-use Rattle.c_expr.proofs.Reader.{Language, Of, Reads}
-use Rattle.c_expr.proofs.Binding.{Both, bind_reads, fits_part}
-use Rattle.c_expr.proofs.Giving.{Given, give_reads, reads_as, reads_within}
-use Rattle.c_expr.proofs.Taking.{Single}
-use Rattle.c_expr.proofs.Choosing.{FirstIs, Either, this, that, choose_reads}
-use Rattle.c_expr.proofs.Repeating.{given_stops}
-use Rattle.c_expr.proofs.Beginning.{Begins, begins_both, begins_single, SomeOf, some_both, some_single, some_given}
-use Rattle.c_expr.proofs.Joining.{in_both, in_single, in_given, onto, join2, join4}
-use Rattle.c_expr.proofs.Spelt.{by_text, kind_yes, spelled_yes, spelt, named, spelt_reads, named_reads}
+use Rattle.c_reader.specs.Reading.{Reader, ◌>>=◌, give, choose}
+use Rattle.c_reader.specs.Tokens.{kind_number, is_mark, is_kind, is_spelled, spelled_by, found_by, found_in, read_mark}
+use Rattle.c_expr.specs.Tokens.{goes_by, suffix_by}
+use Rattle.c_reader.specs.Lists.{read_more}
+use Rattle.c_expr.specs.Types.{read_value, read_enumerator, read_enum_body}
+use Rattle.c_reader.proofs.Reader.{Language, Of, Reads}
+use Rattle.c_reader.proofs.Binding.{Both, bind_reads, fits_part}
+use Rattle.c_reader.proofs.Giving.{Given, give_reads, reads_as, reads_within}
+use Rattle.c_reader.proofs.Taking.{Single}
+use Rattle.c_reader.proofs.Choosing.{FirstIs, Either, this, that, choose_reads}
+use Rattle.c_reader.proofs.Repeating.{given_stops}
+use Rattle.c_reader.proofs.Beginning.{Begins, begins_both, begins_single, SomeOf, some_both, some_single, some_given}
+use Rattle.c_reader.proofs.Joining.{in_both, in_single, in_given, onto, join2, join4}
+use Rattle.c_reader.proofs.Spelt.{by_text, kind_yes, spelled_yes, spelt, named, spelt_reads, named_reads}
 use Rattle.c_expr.proofs.Starting.{begins_cons}
 use Rattle.c_expr.proofs.Suffixes.{At, Stops, Any, no_name, some_at}
 use Rattle.c_expr.proofs.Primaries.{first_from}
-use Rattle.c_expr.proofs.Listing.{separated_rest, separated_is}
-use Rattle.c_expr.proofs.Truths.{and_left, and_right, and_both}
+use Rattle.c_reader.proofs.Listing.{separated_rest, separated_is}
+use Rattle.c_reader.proofs.Truths.{and_left, and_right, and_both}
 
 abbrev pub EnumeratorAt : ℕ → Language Enumerator
 EnumeratorAt n = Of is_enumerator_tree (λ t. wants_of_enumerator t n)
@@ -48,69 +52,69 @@ module _ {A : Type 0} (ok : A → Bool) (f : A → ℕ → List Piece) (most siz
   abbrev ItemL : Language A
   ItemL = Of ok (λ a. f a n)
 
-  unfoldable MoreUpTo : ℕ → Language (List A × Bool)
-  MoreUpTo zero = Given ([], false)
-  MoreUpTo (suc k) = Either (Both (Single (spelt Mark text n)) (λ u. Either (Both ItemL (λ a. Both (MoreUpTo k) (λ rest. Given (a ∷ rest.0, rest.1)))) (Given ([], true)))) (Given ([], false))
+  unfoldable MoreUpTo : ℕ → Language (List A × TrailingComma)
+  MoreUpTo zero = Given ([], Absent)
+  MoreUpTo (suc k) = Either (Both (Single (spelt Mark text n)) (λ u. Either (Both ItemL (λ a. Both (MoreUpTo k) (λ rest. Given (a ∷ rest.0, rest.1)))) (Given ([], Present)))) (Given ([], Absent))
 
-  abbrev MarkL : ℕ → Language (List A × Bool)
-  MarkL k = Both (Single (spelt Mark text n)) (λ u. Either (Both ItemL (λ a. Both (MoreUpTo k) (λ rest. Given (a ∷ rest.0, rest.1)))) (Given ([], true)))
+  abbrev MarkL : ℕ → Language (List A × TrailingComma)
+  MarkL k = Both (Single (spelt Mark text n)) (λ u. Either (Both ItemL (λ a. Both (MoreUpTo k) (λ rest. Given (a ∷ rest.0, rest.1)))) (Given ([], Present)))
 
   mark_begins : (k : ℕ) → Begins (MarkL k) (is_mark text) true
   unfolding IsWanted
   mark_begins k = begins_both _ _ (is_mark text) true (begins_single (spelt Mark text n) (is_mark text) true (λ u w takes. spelled_yes Mark text w takes.0.0 takes.0.1))
 
-  no_more : (k : ℕ) → MoreUpTo k ([], false) []
+  no_more : (k : ℕ) → MoreUpTo k ([], Absent) []
   unfolding MoreUpTo
-  no_more zero = in_given ([], false)
-  no_more (suc k) = that (in_given ([], false))
+  no_more zero = in_given ([], Absent)
+  no_more (suc k) = that (in_given ([], Absent))
 
-  more_stops_at : (k : ℕ) (r : List A × Bool) (ps : List Piece) (ys rest : List Token) → Either (MarkL k) (Given ([], false)) r ps → Fits ps ys → Stops rest → StopsA (ys ++ rest)
+  more_stops_at : (k : ℕ) (r : List A × TrailingComma) (ps : List Piece) (ys rest : List Token) → Either (MarkL k) (Given ([], Absent)) r ps → Fits ps ys → Stops rest → StopsA (ys ++ rest)
   more_stops_at k r ps ys rest (this b) fits stop = goes_on (ys ++ rest) (mark_begins k r ps ys rest b fits)
-  more_stops_at k r ps ys rest (that g) fits stop = given_stops ([], false) r ps ys rest StopsA g fits (ends rest stop)
+  more_stops_at k r ps ys rest (that g) fits stop = given_stops ([], Absent) r ps ys rest StopsA g fits (ends rest stop)
 
-  more_stops : (k : ℕ) (r : List A × Bool) (ps : List Piece) (ys rest : List Token) → MoreUpTo k r ps → Fits ps ys → Stops rest → StopsA (ys ++ rest)
+  more_stops : (k : ℕ) (r : List A × TrailingComma) (ps : List Piece) (ys rest : List Token) → MoreUpTo k r ps → Fits ps ys → Stops rest → StopsA (ys ++ rest)
   unfolding MoreUpTo
-  more_stops zero r ps ys rest is fits stop = given_stops ([], false) r ps ys rest StopsA is fits (ends rest stop)
+  more_stops zero r ps ys rest is fits stop = given_stops ([], Absent) r ps ys rest StopsA is fits (ends rest stop)
   more_stops (suc k) r ps ys rest is fits stop = more_stops_at k r ps ys rest is fits stop
 
-  behind_stops : (k : ℕ) (a : A) (r : List A × Bool) (ps : List Piece) (ys rest : List Token) → Both (MoreUpTo k) (λ more. Given (a ∷ more.0, more.1)) r ps → Fits ps ys → Stops rest → StopsA (ys ++ rest)
+  behind_stops : (k : ℕ) (a : A) (r : List A × TrailingComma) (ps : List Piece) (ys rest : List Token) → Both (MoreUpTo k) (λ more. Given (a ∷ more.0, more.1)) r ps → Fits ps ys → Stops rest → StopsA (ys ++ rest)
   behind_stops k a r ps ys rest b fits stop =
       let e : ps ≡ b.pieces1 = b.whole ∙ ap (λ u. b.pieces1 ++ u) b.right.none ∙ append-nil b.pieces1 in
       more_stops k b.first b.pieces1 ys rest b.left (subst (λ u. Fits u ys) e fits) stop
 
   more_upto : (k : ℕ) → Reads (MoreUpTo k) most size Stops (read_more k text starts left read)
   unfolding MoreUpTo read_more
-  more_upto zero = give_reads ([], false) most size Stops
+  more_upto zero = give_reads ([], Absent) most size Stops
   more_upto (suc k) =
-      choose_reads (MarkL k) (Given ([], false)) most size Stops (is_mark text)
-      (read_mark text left >>= λ separator. choose starts (read >>= λ a. read_more k text starts left read >>= λ rest. give (a ∷ rest.0, rest.1)) (give ([], true))) (give ([], false))
+      choose_reads (MarkL k) (Given ([], Absent)) most size Stops (is_mark text)
+      (read_mark text left >>= λ separator. choose starts (read >>= λ a. read_more k text starts left read >>= λ rest. give (a ∷ rest.0, rest.1)) (give ([], Present))) (give ([], Absent))
       (bind_reads _ _ most size Any Stops _ _ (spelt_reads most size Any Mark text n left level)
-      (λ u. choose_reads (Both ItemL (λ a. Both (MoreUpTo k) (λ rest. Given (a ∷ rest.0, rest.1)))) (Given ([], true)) most size Stops starts (read >>= λ a. read_more k text starts left read >>= λ rest. give (a ∷ rest.0, rest.1)) (give ([], true))
+      (λ u. choose_reads (Both ItemL (λ a. Both (MoreUpTo k) (λ rest. Given (a ∷ rest.0, rest.1)))) (Given ([], Present)) most size Stops starts (read >>= λ a. read_more k text starts left read >>= λ rest. give (a ∷ rest.0, rest.1)) (give ([], Present))
       (bind_reads _ _ most size StopsA Stops _ _ F
       (λ a. bind_reads _ _ most size Stops Stops _ _ (more_upto k) (λ rest. give_reads (a ∷ rest.0, rest.1) most size Stops)
       (λ rest ps is. some_given (a ∷ rest.0, rest.1))
       (λ rest c qs ys behind is fits stop. given_stops (a ∷ rest.0, rest.1) c qs ys behind Stops is fits stop))
-      (λ a ps is. ((a ∷ [], false), ([] ++ [], in_both _ _ _ [] [] ([], false) (no_more k) (in_given (a ∷ [], false)))))
+      (λ a ps is. ((a ∷ [], Absent), ([] ++ [], in_both _ _ _ [] [] ([], Absent) (no_more k) (in_given (a ∷ [], Absent)))))
       (λ a c qs ys behind is fits stop. behind_stops k a c qs ys behind is fits stop))
-      (give_reads ([], true) most size Stops)
+      (give_reads ([], Present) most size Stops)
       (λ r ps front behind is fits stop. begins_both _ _ starts true begins r ps front behind is fits)
-      (λ r ps front behind is fits stop. given_stops ([], true) r ps front behind (λ ts. FirstIs starts false ts) is fits (no_start behind stop)))
-      (λ u ps is. (([], true), ([], that (in_given ([], true)))))
+      (λ r ps front behind is fits stop. given_stops ([], Present) r ps front behind (λ ts. FirstIs starts false ts) is fits (no_start behind stop)))
+      (λ u ps is. (([], Present), ([], that (in_given ([], Present)))))
       (λ u c qs ys behind is fits stop. tt))
-      (give_reads ([], false) most size Stops)
+      (give_reads ([], Absent) most size Stops)
       (λ r ps front behind is fits stop. mark_begins k r ps front behind is fits)
-      (λ r ps front behind is fits stop. given_stops ([], false) r ps front behind (λ ts. FirstIs (is_mark text) false ts) is fits (no_mark behind stop))
+      (λ r ps front behind is fits stop. given_stops ([], Absent) r ps front behind (λ ts. FirstIs (is_mark text) false ts) is fits (no_mark behind stop))
 
   -- the mark at the end, if there is one
-  abbrev pub end_if : Bool → List Piece
-  end_if false = []
-  end_if true = mark text n
+  abbrev pub end_if : TrailingComma → List Piece
+  end_if Absent = []
+  end_if Present = mark text n
 
-  abbrev pub MoreAt : Language (List A × Bool)
+  abbrev pub MoreAt : Language (List A × TrailingComma)
   MoreAt = Of (λ r. list_all ok r.0) (λ r. separated_rest ok f n text r.0 ++ end_if r.1)
 
-  more_step_to : (k : ℕ) → ((r : List A × Bool) (ps : List Piece) → MoreUpTo k r ps → MoreAt r ps) → (r : List A × Bool) (ps : List Piece) (b : Both (Single (spelt Mark text n)) (λ u. Either (Both ItemL (λ a. Both (MoreUpTo k) (λ rest. Given (a ∷ rest.0, rest.1)))) (Given ([], true))) r ps)
-      → Either (Both ItemL (λ a. Both (MoreUpTo k) (λ rest. Given (a ∷ rest.0, rest.1)))) (Given ([], true)) r b.pieces2 → MoreAt r ps
+  more_step_to : (k : ℕ) → ((r : List A × TrailingComma) (ps : List Piece) → MoreUpTo k r ps → MoreAt r ps) → (r : List A × TrailingComma) (ps : List Piece) (b : Both (Single (spelt Mark text n)) (λ u. Either (Both ItemL (λ a. Both (MoreUpTo k) (λ rest. Given (a ∷ rest.0, rest.1)))) (Given ([], Present))) r ps)
+      → Either (Both ItemL (λ a. Both (MoreUpTo k) (λ rest. Given (a ∷ rest.0, rest.1)))) (Given ([], Present)) r b.pieces2 → MoreAt r ps
   unfolding separated_rest
   more_step_to k inner r ps b (this c) =
       let rest = inner c.right.first c.right.pieces1 c.right.left in
@@ -124,23 +128,23 @@ module _ {A : Type 0} (ok : A → Bool) (f : A → ℕ → List Piece) (most siz
   more_step_to k inner r ps b (that g) =
       subst (λ u. MoreAt u ps) (sym g.tree_is) (record { grammar = refl; wants = onto b.whole b.left.one g.none })
 
-  more_either_to : (k : ℕ) → ((r : List A × Bool) (ps : List Piece) → MoreUpTo k r ps → MoreAt r ps) → (r : List A × Bool) (ps : List Piece) → Either (MarkL k) (Given ([], false)) r ps → MoreAt r ps
+  more_either_to : (k : ℕ) → ((r : List A × TrailingComma) (ps : List Piece) → MoreUpTo k r ps → MoreAt r ps) → (r : List A × TrailingComma) (ps : List Piece) → Either (MarkL k) (Given ([], Absent)) r ps → MoreAt r ps
   unfolding separated_rest
   more_either_to k inner r ps (this b) = more_step_to k inner r ps b b.right
   more_either_to k inner r ps (that g) = subst (λ u. MoreAt u ps) (sym g.tree_is) (record { grammar = refl; wants = g.none })
 
-  more_to : (k : ℕ) (r : List A × Bool) (ps : List Piece) → MoreUpTo k r ps → MoreAt r ps
+  more_to : (k : ℕ) (r : List A × TrailingComma) (ps : List Piece) → MoreUpTo k r ps → MoreAt r ps
   unfolding MoreUpTo separated_rest
   more_to zero r ps is = subst (λ u. MoreAt u ps) (sym is.tree_is) (record { grammar = refl; wants = is.none })
   more_to (suc k) r ps is = more_either_to k (more_to k) r ps is
 
-  more_from : (k : ℕ) (items : List A) (comma : Bool) (ps : List Piece) → MoreAt (items, comma) ps → length ps ≤ k → MoreUpTo k (items, comma) ps
+  more_from : (k : ℕ) (items : List A) (comma : TrailingComma) (ps : List Piece) → MoreAt (items, comma) ps → length ps ≤ k → MoreUpTo k (items, comma) ps
   unfolding MoreUpTo separated_rest
-  more_from zero [] false ps is few = record { tree_is = refl; none = is.wants }
-  more_from zero [] true ps is few = absurd (omega (arith, few, ap length is.wants))
+  more_from zero [] Absent ps is few = record { tree_is = refl; none = is.wants }
+  more_from zero [] Present ps is few = absurd (omega (arith, few, ap length is.wants))
   more_from zero (a ∷ items) comma ps is few = absurd (omega (arith, few, ap length is.wants))
-  more_from (suc k) [] false ps is few = that (record { tree_is = refl; none = is.wants })
-  more_from (suc k) [] true ps is few = this (subst (λ u. MarkL k ([], true) u) (sym is.wants) (in_both _ _ _ _ _ tt (in_single (spelt Mark text n) tt) (that (in_given ([], true)))))
+  more_from (suc k) [] Absent ps is few = that (record { tree_is = refl; none = is.wants })
+  more_from (suc k) [] Present ps is few = this (subst (λ u. MarkL k ([], Present) u) (sym is.wants) (in_both _ _ _ _ _ tt (in_single (spelt Mark text n) tt) (that (in_given ([], Present)))))
   more_from (suc k) (a ∷ items) comma ps is few =
       let tail = separated_rest ok f n text items ++ end_if comma in
       let whole : ps ≡ (spelt Mark text n tt ∷ []) ++ (f a n ++ (tail ++ [])) = is.wants ∙ ap (λ u. (spelt Mark text n tt ∷ []) ++ u) (append_assoc (f a n) (separated_rest ok f n text items) (end_if comma) ∙ ap (λ u. f a n ++ u) (sym (append-nil tail))) in
@@ -155,7 +159,7 @@ module _ {A : Type 0} (ok : A → Bool) (f : A → ℕ → List Piece) (most siz
 
   pub some_more : SomeOf MoreAt
   unfolding separated_rest
-  some_more = (([], false), ([], record { grammar = refl; wants = refl }))
+  some_more = (([], Absent), ([], record { grammar = refl; wants = refl }))
 
 -- ---- constants
 
@@ -219,7 +223,7 @@ module _ (most size n left : ℕ) (level : n + left ≡ most + 1) (read : Reader
       (λ name ps is. some_both _ _ some_value (λ value. some_given (roll-Enumerator (record { name = name; value = value }))))
       (λ name c qs ys rest is fits stop. tt)
 
-  enumerator_flat : (name : Named) (value : Option Expr) → (named Name n name ∷ []) ++ (value_wants (option_map wants_of_expr value) n ++ []) ≡ wants_of_enumerator (roll-Enumerator (record { name = name; value = value })) n
+  enumerator_flat : (name : Identifier) (value : Option Expr) → (named Name n name ∷ []) ++ (value_wants (option_map wants_of_expr value) n ++ []) ≡ wants_of_enumerator (roll-Enumerator (record { name = name; value = value })) n
   enumerator_flat name value = join2 (named Name n name ∷ []) (value_wants (option_map wants_of_expr value) n) ∙ sym (ap (λ f. f n) (wants_Enumerator name value))
 
   enumerator_to : (t : Enumerator) (ps : List Piece) → EnumeratorL t ps → EnumeratorAt n t ps
@@ -263,31 +267,31 @@ module _ (most size n left : ℕ) (level : n + left ≡ most + 1) (read : Reader
   unfolding is_kind
   no_name_here = first_from Mark (codes "}") (λ k t. kind_number k == kind_number Name) false refl
 
-  abbrev RestAt : Language (List Enumerator × Bool)
+  abbrev RestAt : Language (List Enumerator × TrailingComma)
   RestAt = MoreAt is_enumerator_tree wants_of_enumerator most size n left level (codes ",") (is_kind Name) Behind Closed (read_enumerator left read) enumerator_reads enumerator_begins (λ ts h. comma h) (λ ts h. brace h) no_comma no_name_here
 
-  abbrev BodyL : Language (List Enumerator × Bool)
+  abbrev BodyL : Language (List Enumerator × TrailingComma)
   BodyL = Both (Single (spelt Mark (codes "{") n)) (λ opening. Both (EnumeratorAt n) (λ first. Both RestAt (λ rest. Both (Single (spelt Mark (codes "}") n)) (λ closing. Given (first ∷ rest.0, rest.1)))))
 
-  abbrev pub EnumBodyAt : Language (List Enumerator × Bool)
+  abbrev pub EnumBodyAt : Language (List Enumerator × TrailingComma)
   EnumBodyAt = Of (λ b. has_some b.0 && list_all is_enumerator_tree b.0) (λ b. enum_body (Some (map wants_of_enumerator b.0)) b.1 n)
 
   closes : Begins (Single (spelt Mark (codes "}") n)) (is_mark (codes "}")) true
   unfolding IsWanted
   closes = begins_single (spelt Mark (codes "}") n) (is_mark (codes "}")) true (λ u w takes. spelled_yes Mark (codes "}") w takes.0.0 takes.0.1)
 
-  some_end : (value : List Enumerator × Bool) → SomeOf (Both (Single (spelt Mark (codes "}") n)) (λ closing. Given value))
+  some_end : (value : List Enumerator × TrailingComma) → SomeOf (Both (Single (spelt Mark (codes "}") n)) (λ closing. Given value))
   some_end value = some_both _ _ (some_single (spelt Mark (codes "}") n) tt) (λ closing. some_given value)
 
-  rest_first : (items : List Enumerator) (last : Bool) (ps : List Piece) (ys more : List Token) → RestAt (items, last) ps → Fits ps ys → Closed more → Behind (ys ++ more)
+  rest_first : (items : List Enumerator) (last : TrailingComma) (ps : List Piece) (ys more : List Token) → RestAt (items, last) ps → Fits ps ys → Closed more → Behind (ys ++ more)
   unfolding separated_rest Fits IsWanted
-  rest_first [] false ps [] more is fits stop = brace stop
-  rest_first [] false [] (y ∷ ys) more is fits stop = absurd fits
-  rest_first [] false (p ∷ ps) (y ∷ ys) more is fits stop = absurd (cc)
-  rest_first [] true ps ys more is fits stop = comma (begins_cons (spelt Mark (codes ",") n tt) (is_mark (codes ",")) true (λ w takes. spelled_yes Mark (codes ",") w takes.0.0 takes.0.1) ps [] ys more is.wants fits)
+  rest_first [] Absent ps [] more is fits stop = brace stop
+  rest_first [] Absent [] (y ∷ ys) more is fits stop = absurd fits
+  rest_first [] Absent (p ∷ ps) (y ∷ ys) more is fits stop = absurd (cc)
+  rest_first [] Present ps ys more is fits stop = comma (begins_cons (spelt Mark (codes ",") n tt) (is_mark (codes ",")) true (λ w takes. spelled_yes Mark (codes ",") w takes.0.0 takes.0.1) ps [] ys more is.wants fits)
   rest_first (a ∷ items) last ps ys more is fits stop = comma (begins_cons (spelt Mark (codes ",") n tt) (is_mark (codes ",")) true (λ w takes. spelled_yes Mark (codes ",") w takes.0.0 takes.0.1) ps _ ys more is.wants fits)
 
-  behind_first : (first : Enumerator) (c : List Enumerator × Bool) (qs : List Piece) (ys more : List Token) → Both RestAt (λ rest. Both (Single (spelt Mark (codes "}") n)) (λ closing. Given (first ∷ rest.0, rest.1))) c qs → Fits qs ys → Behind (ys ++ more)
+  behind_first : (first : Enumerator) (c : List Enumerator × TrailingComma) (qs : List Piece) (ys more : List Token) → Both RestAt (λ rest. Both (Single (spelt Mark (codes "}") n)) (λ closing. Given (first ∷ rest.0, rest.1))) c qs → Fits qs ys → Behind (ys ++ more)
   behind_first first c qs ys more b fits =
       let parted = fits_part b.pieces1 b.pieces2 ys (subst (λ u. Fits u ys) b.whole fits) in
       subst Behind (sym (ap (λ u. u ++ more) parted.whole ∙ append_assoc parted.front parted.behind more))
@@ -316,11 +320,11 @@ module _ (most size n left : ℕ) (level : n + left ≡ most + 1) (read : Reader
       (λ opening c qs ys more is fits stop. tt)
 
   -- the comma at the end as the tree has it
-  comma_is : (last : Bool) → end_if is_enumerator_tree wants_of_enumerator most size n left level (codes ",") (is_kind Name) Behind Closed (read_enumerator left read) enumerator_reads enumerator_begins (λ ts h. comma h) (λ ts h. brace h) no_comma no_name_here last ≡ comma_if last n
-  comma_is false = refl
-  comma_is true = refl
+  comma_is : (last : TrailingComma) → end_if is_enumerator_tree wants_of_enumerator most size n left level (codes ",") (is_kind Name) Behind Closed (read_enumerator left read) enumerator_reads enumerator_begins (λ ts h. comma h) (λ ts h. brace h) no_comma no_name_here last ≡ comma_if last n
+  comma_is Absent = refl
+  comma_is Present = refl
 
-  body_flat : (first : Enumerator) (items : List Enumerator) (last : Bool)
+  body_flat : (first : Enumerator) (items : List Enumerator) (last : TrailingComma)
       → (spelt Mark (codes "{") n tt ∷ []) ++ (wants_of_enumerator first n ++ ((separated_rest is_enumerator_tree wants_of_enumerator n (codes ",") items ++ comma_if last n) ++ ((spelt Mark (codes "}") n tt ∷ []) ++ []))) ≡ enum_body (Some (map wants_of_enumerator (first ∷ items))) last n
   body_flat first items last =
       ap (λ u. (spelt Mark (codes "{") n tt ∷ []) ++ u)
@@ -329,7 +333,7 @@ module _ (most size n left : ℕ) (level : n + left ≡ most + 1) (read : Reader
       ∙ ap (λ u. u ++ (comma_if last n ++ ((spelt Mark (codes "}") n tt ∷ []) ++ []))) (separated_is is_enumerator_tree wants_of_enumerator n (codes ",") first items))
       ∙ join4 (spelt Mark (codes "{") n tt ∷ []) (separated (codes ",") (map wants_of_enumerator (first ∷ items)) n) (comma_if last n) (spelt Mark (codes "}") n tt ∷ [])
 
-  body_to : (t : List Enumerator × Bool) (ps : List Piece) → BodyL t ps → EnumBodyAt t ps
+  body_to : (t : List Enumerator × TrailingComma) (ps : List Piece) → BodyL t ps → EnumBodyAt t ps
   body_to t ps b =
       let c = b.right in
       let rest = c.right.left in
@@ -341,7 +345,7 @@ module _ (most size n left : ℕ) (level : n + left ≡ most + 1) (read : Reader
             ∙ body_flat c.first c.right.first.0 c.right.first.1;
       })
 
-  body_from_at : (items : List Enumerator) (last : Bool) (ps : List Piece) → EnumBodyAt (items, last) ps → BodyL (items, last) ps
+  body_from_at : (items : List Enumerator) (last : TrailingComma) (ps : List Piece) → EnumBodyAt (items, last) ps → BodyL (items, last) ps
   body_from_at [] last ps is = absurd (cc)
   body_from_at (first ∷ items) last ps is =
       subst (λ u. BodyL (first ∷ items, last) u) (body_flat first items last ∙ sym is.wants)
@@ -350,7 +354,7 @@ module _ (most size n left : ℕ) (level : n + left ≡ most + 1) (read : Reader
       (in_both _ _ _ _ _ (items, last) (record { grammar = and_right (is_enumerator_tree first) (list_all is_enumerator_tree items) is.grammar; wants = ap (λ u. separated_rest is_enumerator_tree wants_of_enumerator n (codes ",") items ++ u) (sym (comma_is last)) })
       (in_both _ _ _ _ _ tt (in_single (spelt Mark (codes "}") n) tt) (in_given (first ∷ items, last))))))
 
-  body_from : (t : List Enumerator × Bool) (ps : List Piece) → EnumBodyAt t ps → BodyL t ps
+  body_from : (t : List Enumerator × TrailingComma) (ps : List Piece) → EnumBodyAt t ps → BodyL t ps
   body_from t ps is = body_from_at t.0 t.1 ps is
 
   pub enum_body_reads : (After : List Token → Type 0) → Reads EnumBodyAt most size After (read_enum_body size left read)
@@ -359,7 +363,7 @@ module _ (most size n left : ℕ) (level : n + left ≡ most + 1) (read : Reader
   pub some_enum_body : SomeOf EnumBodyAt
   some_enum_body =
       let e = some_enumerator in
-      ((e.0 ∷ [], false), (enum_body (Some (map wants_of_enumerator (e.0 ∷ []))) false n, record { grammar = and_both (is_enumerator_tree e.0) true e.1.1.grammar refl; wants = refl }))
+      ((e.0 ∷ [], Absent), (enum_body (Some (map wants_of_enumerator (e.0 ∷ []))) Absent n, record { grammar = and_both (is_enumerator_tree e.0) true e.1.1.grammar refl; wants = refl }))
 
   pub enum_body_begins : (by : TokenKind → List ℕ → Bool) (b : Bool) → by Mark (codes "{") ≡ b → Begins EnumBodyAt (λ w. by w.kind w.text) b
   unfolding IsWanted

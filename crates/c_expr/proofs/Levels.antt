@@ -1,43 +1,40 @@
 -- The readers of all levels of nesting.
 use Rattle.std.proofs.Common.{◌≡◌, ◌≤◌, ◌<◌, ◌⊎◌, inl, inr, ℕ, zero, suc, ◌+◌, Bool, true, false, ◌||◌, List, [], ◌∷◌, ◌++◌, Option, Some, None, is_some, refl, sym, ap, ◌∙◌, subst, arith, codes}
 use Rattle.std.proofs.lemmas.List.{append_cancel_right}
-use Rattle.c_tree.specs.Pieces.{Piece, mark, spelled, want_of, IsWanted, StandsAt, Takes, Fits}
+use Rattle.c_tree.specs.Pieces.{Piece, mark, spelled, want_of, IsWanted, StandsAt, Takes, Fits, words_at, name}
 use Rattle.c_tree.specs.Operators.{text_of_prefix}
 use Rattle.c_tree.specs.TypeWords.{text_of_word}
-use Rattle.c_tree.specs.Expressions.{wants_of_expr}
+use Rattle.c_tree.specs.Folds.{wants_of_expr, wants_of_spelling, is_spelling_tree}
 use Rattle.c_tree.specs.declared.token.Token.{Token}
 use Rattle.c_tree.specs.declared.token.TokenKind.{TokenKind}
 use Rattle.c_tree.specs.declared.token.TokenKind.TheVariants.{Word, Name, TypeName, Integer, Character, Mark}
 use Rattle.c_tree.specs.declared.expressions.Expr.{Expr}
 use Rattle.c_tree.specs.declared.expressions.Expr.TheVariants as expr
-use Rattle.c_tree.specs.declared.expressions.Expr.TheViews.{roll-Specs}
-use Rattle.c_tree.specs.declared.expressions.Specs.{Specs}
-use Rattle.c_tree.specs.declared.expressions.Spelling.TheVariants as spelling
-use Rattle.c_tree.specs.declared.expressions.Tag.TheVariants as tag
+use Rattle.c_tree.specs.declared.expressions.Expr.TheViews.{roll-Specifiers}
+use Rattle.c_tree.specs.declared.expressions.Specifiers.{Specifiers}
+use Rattle.c_tree.specs.declared.expressions.TypeSpecifier.TheVariants as spelling
+use Rattle.c_tree.specs.declared.expressions.TagSpecifier.TheVariants as tag
+use Rattle.c_tree.specs.declared.expressions.TrailingComma.TheVariants.{Absent}
 use Rattle.std.specs.Str.{bytes_eq}
 use Rattle.std.proofs.lemmas.Slice.Eq.{bytes_eq-Decides}
-use Rattle.c_tree.proofs.Wanted.{wants_Expr_Name, wants_Expr_Literal, wants_Expr_Group, wants_Expr_Prefix, wants_Specs, wants_Spelling_Words, wants_Spelling_Tag, wants_Spelling_TypeName, wants_Tag_Struct, wants_Tag_Enum}
-use Rattle.c_tree.proofs.Grammatical.{is_Expr_Name, is_Expr_Literal, is_Expr_Group, is_Expr_Prefix, is_Specs, is_Spelling_Words, is_Spelling_Tag, is_Spelling_TypeName, is_Tag_Struct, is_Tag_Enum}
+use Rattle.c_tree.proofs.FoldsLaws.{wants_Expr_Name, wants_Expr_Literal, wants_Expr_Parenthesized, wants_Expr_Unary, wants_Specifiers, wants_TypeSpecifier_Words, wants_TypeSpecifier_TagSpecifier, wants_TypeSpecifier_TypeName, wants_TagSpecifier_Struct, wants_TagSpecifier_Enum, is_Expr_Name, is_Expr_Literal, is_Expr_Parenthesized, is_Expr_Unary, is_Specifiers, is_TypeSpecifier_Words, is_TypeSpecifier_TagSpecifier, is_TypeSpecifier_TypeName, is_TagSpecifier_Struct, is_TagSpecifier_Enum}
 use Rattle.c_tree.specs.declared.token.TokenKind.TheVariants.{Str, Bound, End}
 use Rattle.c_tree.specs.declared.expressions.Literal.{Literal}
 use Rattle.c_tree.specs.declared.expressions.Literal.TheVariants as literal
-use Rattle.c_tree.specs.declared.expressions.Prefix.{Prefix}
-use Rattle.c_expr.specs.Tokens.{prefixes, type_words}
-use Rattle.c_expr.proofs.Spelt.{AreUnder, found_text}
-use Rattle.c_expr.specs.Reading.{Reader, take_as, taken}
-use Rattle.c_expr.specs.Reading as reading
-use Rattle.c_expr.specs.Tokens.{starts_expr, starts_type, expr_by, type_by, named_of, spelled_by, found_by, found_in}
+use Rattle.c_tree.specs.declared.expressions.UnaryOperator.{UnaryOperator}
+use Rattle.c_expr.specs.Tokens.{prefixes, type_words, starts_expr, starts_type, expr_by, type_by}
+use Rattle.c_reader.specs.Tokens.{named_of, spelled_by, found_by, found_in}
+use Rattle.c_reader.proofs.Spelt.{AreUnder, found_text}
+use Rattle.c_reader.specs.Reading.{Reader, take_as, taken}
+use Rattle.c_reader.specs.Reading as reading
 use Rattle.c_expr.specs.Expressions.{read_expr}
 use Rattle.c_expr.specs.Levels.{readers_at, no_expr, no_specs}
-use Rattle.c_expr.proofs.Reader.{Language, Shallow, Deep, Found, Reads}
-use Rattle.c_expr.proofs.Beginning.{SomeOf}
+use Rattle.c_reader.proofs.Reader.{Language, Shallow, Deep, Found, Reads}
+use Rattle.c_reader.proofs.Beginning.{SomeOf}
 use Rattle.c_expr.proofs.Starting.{Suits, expr_leads}
 use Rattle.c_expr.proofs.Typing.{SuitsType, specs_lead, word_all}
-use Rattle.c_tree.specs.Pieces.{words_at, name}
-use Rattle.c_tree.specs.Expressions.{wants_of_spelling}
-use Rattle.c_tree.specs.Grammar.{is_spelling_tree}
 use Rattle.c_tree.specs.declared.expressions.TypeWord.{TypeWord}
-use Rattle.c_tree.specs.declared.expressions.Spelling.{Spelling}
+use Rattle.c_tree.specs.declared.expressions.TypeSpecifier.{TypeSpecifier}
 use Rattle.c_expr.proofs.Words.{under_words, agrees_all, spelling_whole}
 use Rattle.c_expr.proofs.Suffixes.{At, SpecsAt, Stops, StopsType, InnerReads, no_name, some_at}
 use Rattle.c_expr.proofs.Primaries.{prefix_all}
@@ -45,7 +42,7 @@ use Rattle.c_expr.proofs.Members.{some_specs}
 use Rattle.c_expr.proofs.Unaries.{lower_to, unary_reads}
 use Rattle.c_expr.proofs.Wholes.{expr_reads}
 use Rattle.c_expr.proofs.Specifying.{specs_reads}
-use Rattle.c_expr.proofs.Truths.{or_cases, or_false}
+use Rattle.c_reader.proofs.Truths.{or_cases, or_false}
 
 -- a tree that begins with a piece nested too deeply
 pub record Opening {A : Type 0} (L : Language A) (most : ℕ) (w : Token) : Type 0 where
@@ -177,23 +174,23 @@ module _ (most n level : ℕ) (low : level ≤ 11) (deep : most < n) where
   group_opens w k t =
       let value = some_at 0 (n + 1) (omega arith) in
       record {
-        tree = expr.Group w.place value.0;
+        tree = expr.Parenthesized w.place value.0;
         piece = record { nesting = n; place = Some w.place; want = spelled Mark (codes "(") };
         missing = wants_of_expr value.0 (n + 1) ++ mark (codes ")") n;
-        spelled_ = record { grammar = lower_to level 13 (omega (arith, low)) (expr.Group w.place value.0) (ap (λ f. f 13) (is_Expr_Group w.place value.0) ∙ value.1.1.grammar); wants = sym (ap (λ f. f n) (wants_Expr_Group w.place value.0)) };
+        spelled_ = record { grammar = lower_to level 13 (omega (arith, low)) (expr.Parenthesized w.place value.0) (ap (λ f. f 13) (is_Expr_Parenthesized w.place value.0) ∙ value.1.1.grammar); wants = sym (ap (λ f. f n) (wants_Expr_Parenthesized w.place value.0)) };
         takes = ((k, t), refl);
         deep = deep;
       }
 
-  prefix_opens : (operator : Prefix) (w : Token) → w.kind ≡ Mark → w.text ≡ text_of_prefix operator → Opening (At level n) most w
+  prefix_opens : (operator : UnaryOperator) (w : Token) → w.kind ≡ Mark → w.text ≡ text_of_prefix operator → Opening (At level n) most w
   unfolding IsWanted StandsAt
   prefix_opens operator w k t =
       let value = some_at 11 (n + 1) (omega arith) in
       record {
-        tree = expr.Prefix w.place operator value.0;
+        tree = expr.Unary w.place operator value.0;
         piece = record { nesting = n; place = Some w.place; want = spelled Mark (text_of_prefix operator) };
         missing = wants_of_expr value.0 (n + 1);
-        spelled_ = record { grammar = lower_to level 11 low (expr.Prefix w.place operator value.0) (ap (λ f. f 11) (is_Expr_Prefix w.place operator value.0) ∙ value.1.1.grammar); wants = sym (ap (λ f. f n) (wants_Expr_Prefix w.place operator value.0)) };
+        spelled_ = record { grammar = lower_to level 11 low (expr.Unary w.place operator value.0) (ap (λ f. f 11) (is_Expr_Unary w.place operator value.0) ∙ value.1.1.grammar); wants = sym (ap (λ f. f n) (wants_Expr_Unary w.place operator value.0)) };
         takes = ((k, t), refl);
         deep = deep;
       }
@@ -207,7 +204,7 @@ module _ (most n level : ℕ) (low : level ≤ 11) (deep : most < n) where
   unfolding AreUnder
   under_prefixes = (refl, (refl, (refl, (refl, (refl, (refl, tt))))))
 
-  prefix_found : (w : Token) → w.kind ≡ Mark → (found : Option Prefix) → found_in prefixes w.text ≡ found → is_some found ≡ true → Opening (At level n) most w
+  prefix_found : (w : Token) → w.kind ≡ Mark → (found : Option UnaryOperator) → found_in prefixes w.text ≡ found → is_some found ≡ true → Opening (At level n) most w
   prefix_found w k None is some = absurd (cc)
   prefix_found w k (Some operator) is some = prefix_opens operator w k (found_text text_of_prefix prefixes w.text operator under_prefixes is)
 
@@ -243,14 +240,14 @@ module _ (most n level : ℕ) (low : level ≤ 11) (deep : most < n) where
 
 module _ (most n : ℕ) (deep : most < n) where
   -- a spelling without const is a specifier list
-  plain_opens : (w : Token) (k : Spelling) (piece : Piece) (missing : List Piece) → is_spelling_tree k ≡ true → wants_of_spelling k n ≡ piece ∷ missing → Takes piece w → piece.nesting ≡ n → Opening (SpecsAt n) most w
+  plain_opens : (w : Token) (k : TypeSpecifier) (piece : Piece) (missing : List Piece) → is_spelling_tree k ≡ true → wants_of_spelling k n ≡ piece ∷ missing → Takes piece w → piece.nesting ≡ n → Opening (SpecsAt n) most w
   unfolding words_at
   plain_opens w k piece missing ok wants takes nested =
       record {
-        tree = roll-Specs (record { before = []; kind = k; after = [] });
+        tree = roll-Specifiers (record { before = []; kind = k; after = [] });
         piece = piece;
         missing = missing ++ [];
-        spelled_ = record { grammar = is_Specs [] k [] ∙ ok; wants = ap (λ u. u ++ []) (sym wants) ∙ sym (ap (λ f. f n) (wants_Specs [] k [])) };
+        spelled_ = record { grammar = is_Specifiers [] k [] ∙ ok; wants = ap (λ u. u ++ []) (sym wants) ∙ sym (ap (λ f. f n) (wants_Specifiers [] k [])) };
         takes = takes;
         deep = omega (arith, deep, nested);
       }
@@ -259,10 +256,10 @@ module _ (most n : ℕ) (deep : most < n) where
   unfolding words_at IsWanted StandsAt
   const_opens w k t =
       record {
-        tree = roll-Specs (record { before = w.place ∷ []; kind = spelling.TypeName no_name; after = [] });
+        tree = roll-Specifiers (record { before = w.place ∷ []; kind = spelling.TypeName no_name; after = [] });
         piece = record { nesting = n; place = Some w.place; want = spelled Word (codes "const") };
         missing = wants_of_spelling (spelling.TypeName no_name) n ++ [];
-        spelled_ = record { grammar = is_Specs (w.place ∷ []) (spelling.TypeName no_name) [] ∙ is_Spelling_TypeName no_name; wants = sym (ap (λ f. f n) (wants_Specs (w.place ∷ []) (spelling.TypeName no_name) [])) };
+        spelled_ = record { grammar = is_Specifiers (w.place ∷ []) (spelling.TypeName no_name) [] ∙ is_TypeSpecifier_TypeName no_name; wants = sym (ap (λ f. f n) (wants_Specifiers (w.place ∷ []) (spelling.TypeName no_name) [])) };
         takes = ((k, t), refl);
         deep = deep;
       }
@@ -270,24 +267,24 @@ module _ (most n : ℕ) (deep : most < n) where
   type_word_opens : (v : TypeWord) (w : Token) → w.kind ≡ Word → w.text ≡ text_of_word v → Opening (SpecsAt n) most w
   unfolding agrees_all IsWanted StandsAt
   type_word_opens v w k t =
-      plain_opens w (spelling.Words w.place (v ∷ [])) (record { nesting = n; place = Some w.place; want = spelled Word (text_of_word v) }) [] (is_Spelling_Words w.place (v ∷ []) ∙ spelling_whole v [] refl) (ap (λ f. f n) (wants_Spelling_Words w.place (v ∷ []))) ((k, t), refl) refl
+      plain_opens w (spelling.Words w.place (v ∷ [])) (record { nesting = n; place = Some w.place; want = spelled Word (text_of_word v) }) [] (is_TypeSpecifier_Words w.place (v ∷ []) ∙ spelling_whole v [] refl) (ap (λ f. f n) (wants_TypeSpecifier_Words w.place (v ∷ []))) ((k, t), refl) refl
 
   struct_opens : (w : Token) → w.kind ≡ Word → w.text ≡ codes "struct" → Opening (SpecsAt n) most w
   unfolding IsWanted StandsAt
   struct_opens w k t =
-      plain_opens w (spelling.Tag (tag.Struct w.place (Some no_name) None)) (record { nesting = n; place = Some w.place; want = spelled Word (codes "struct") }) (name no_name n ++ []) (is_Spelling_Tag (tag.Struct w.place (Some no_name) None) ∙ is_Tag_Struct w.place (Some no_name) None)
-      (ap (λ f. f n) (wants_Spelling_Tag (tag.Struct w.place (Some no_name) None)) ∙ ap (λ f. f n) (wants_Tag_Struct w.place (Some no_name) None)) ((k, t), refl) refl
+      plain_opens w (spelling.TagSpecifier (tag.Struct w.place (Some no_name) None)) (record { nesting = n; place = Some w.place; want = spelled Word (codes "struct") }) (name no_name n ++ []) (is_TypeSpecifier_TagSpecifier (tag.Struct w.place (Some no_name) None) ∙ is_TagSpecifier_Struct w.place (Some no_name) None)
+      (ap (λ f. f n) (wants_TypeSpecifier_TagSpecifier (tag.Struct w.place (Some no_name) None)) ∙ ap (λ f. f n) (wants_TagSpecifier_Struct w.place (Some no_name) None)) ((k, t), refl) refl
 
   enum_opens : (w : Token) → w.kind ≡ Word → w.text ≡ codes "enum" → Opening (SpecsAt n) most w
   unfolding IsWanted StandsAt
   enum_opens w k t =
-      plain_opens w (spelling.Tag (tag.Enum w.place (Some no_name) None false)) (record { nesting = n; place = Some w.place; want = spelled Word (codes "enum") }) (name no_name n ++ []) (is_Spelling_Tag (tag.Enum w.place (Some no_name) None false) ∙ is_Tag_Enum w.place (Some no_name) None false)
-      (ap (λ f. f n) (wants_Spelling_Tag (tag.Enum w.place (Some no_name) None false)) ∙ ap (λ f. f n) (wants_Tag_Enum w.place (Some no_name) None false)) ((k, t), refl) refl
+      plain_opens w (spelling.TagSpecifier (tag.Enum w.place (Some no_name) None Absent)) (record { nesting = n; place = Some w.place; want = spelled Word (codes "enum") }) (name no_name n ++ []) (is_TypeSpecifier_TagSpecifier (tag.Enum w.place (Some no_name) None Absent) ∙ is_TagSpecifier_Enum w.place (Some no_name) None Absent)
+      (ap (λ f. f n) (wants_TypeSpecifier_TagSpecifier (tag.Enum w.place (Some no_name) None Absent)) ∙ ap (λ f. f n) (wants_TagSpecifier_Enum w.place (Some no_name) None Absent)) ((k, t), refl) refl
 
   type_name_opens : (w : Token) → w.kind ≡ TypeName → Opening (SpecsAt n) most w
   unfolding IsWanted StandsAt
   type_name_opens w k =
-      plain_opens w (spelling.TypeName (named_of w)) (record { nesting = n; place = Some w.place; want = spelled TypeName w.text }) [] (is_Spelling_TypeName (named_of w)) (ap (λ f. f n) (wants_Spelling_TypeName (named_of w))) ((k, refl), refl) refl
+      plain_opens w (spelling.TypeName (named_of w)) (record { nesting = n; place = Some w.place; want = spelled TypeName w.text }) [] (is_TypeSpecifier_TypeName (named_of w)) (ap (λ f. f n) (wants_TypeSpecifier_TypeName (named_of w))) ((k, refl), refl) refl
 
   found_opens : (w : Token) → w.kind ≡ Word → (found : Option TypeWord) → found_in type_words w.text ≡ found → is_some found ≡ true → Opening (SpecsAt n) most w
   found_opens w k None is some = absurd (cc)
@@ -321,13 +318,13 @@ module _ (most n : ℕ) (deep : most < n) where
   unfolding type_by spelled_by found_by found_in
   suits_type = record { constant = refl; word = word_all type_by true refl refl refl refl refl refl refl refl refl refl refl refl refl refl refl refl refl; struct_ = refl; enum_ = refl; type_name = λ t. refl }
 
-  specs_leading : (t : Specs) (ps : List Piece) → SpecsAt n t ps → Leading starts_type most ps
+  specs_leading : (t : Specifiers) (ps : List Piece) → SpecsAt n t ps → Leading starts_type most ps
   specs_leading t ps is =
       let lead = specs_lead type_by true suits_type n t is.grammar in
       record { piece = lead.piece; behind = lead.behind; is = is.wants ∙ lead.is; tells = lead.tells; deep = omega (arith, deep, lead.nested) }
 
   pub refused_specs : (size : ℕ) (Behind : List Token → Type 0) → Reads (SpecsAt n) most size Behind no_specs
-  refused_specs size Behind = refused_reads (SpecsAt n) starts_type (λ token. roll-Specs (record { before = []; kind = spelling.TypeName (named_of token); after = [] })) most size Behind (some_specs n) (λ w h. type_opens_by w w.kind refl h) specs_leading
+  refused_specs size Behind = refused_reads (SpecsAt n) starts_type (λ token. roll-Specifiers (record { before = []; kind = spelling.TypeName (named_of token); after = [] })) most size Behind (some_specs n) (λ w h. type_opens_by w w.kind refl h) specs_leading
 
 -- ---- all levels
 

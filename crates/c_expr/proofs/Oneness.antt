@@ -1,15 +1,14 @@
 -- A list of tokens spells one tree at most.
 use Rattle.std.proofs.Common.{◌≡◌, ◌≤◌, inl, inr, ℕ, suc, ◌+◌, true, List, [], ◌∷◌, ◌++◌, length, refl, arith}
 use Rattle.c_tree.specs.Pieces.{Piece, Fits}
-use Rattle.c_tree.specs.Expressions.{wants_of_expr, wants_of_specs}
-use Rattle.c_tree.specs.Grammar.{binds, are_specs}
+use Rattle.c_tree.specs.Folds.{wants_of_expr, wants_of_specs, binds, are_specs}
 use Rattle.c_tree.specs.declared.token.Token.{Token}
 use Rattle.c_tree.specs.declared.expressions.Expr.{Expr}
-use Rattle.c_tree.specs.declared.expressions.Specs.{Specs}
-use Rattle.c_expr.specs.Reading.{Reader}
-use Rattle.c_expr.specs.Reading as reading
-use Rattle.c_expr.proofs.Reader.{Language, Shallow, Found, Reads}
-use Rattle.c_expr.proofs.Choosing.{FirstIs}
+use Rattle.c_tree.specs.declared.expressions.Specifiers.{Specifiers}
+use Rattle.c_reader.specs.Reading.{Reader}
+use Rattle.c_reader.specs.Reading as reading
+use Rattle.c_reader.proofs.Reader.{Language, Shallow, Found, Reads}
+use Rattle.c_reader.proofs.Choosing.{FirstIs}
 use Rattle.c_expr.proofs.Levels.{all_read}
 
 pub deepest : List Piece → ℕ
@@ -47,7 +46,7 @@ one_expr n a b tokens left right fits_left fits_right =
     (record { grammar = left; wants = refl }) (record { grammar = right; wants = refl }) fits_left fits_right
     (shallow_more d most (omega arith) (wants_of_expr a n) (all_shallow (wants_of_expr a n))) (shallow_more e most (omega arith) (wants_of_expr b n) (all_shallow (wants_of_expr b n))) (omega arith)
 
-pub one_specs : (n : ℕ) (a b : Specs) (tokens : List Token) → are_specs a ≡ true → are_specs b ≡ true → Fits (wants_of_specs a n) tokens → Fits (wants_of_specs b n) tokens → a ≡ b
+pub one_specs : (n : ℕ) (a b : Specifiers) (tokens : List Token) → are_specs a ≡ true → are_specs b ≡ true → Fits (wants_of_specs a n) tokens → Fits (wants_of_specs b n) tokens → a ≡ b
 unfolding FirstIs
 one_specs n a b tokens left right fits_left fits_right =
     let d = deepest (wants_of_specs a n) in

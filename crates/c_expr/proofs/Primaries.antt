@@ -2,38 +2,40 @@
 use Rattle.std.proofs.Common.{◌≡◌, ℕ, ◌+◌, Bool, true, false, ◌==◌, List, [], ◌∷◌, ◌++◌, map, refl, sym, ap, ◌∙◌, subst, arith, codes}
 use Rattle.std.specs.List.{list_all}
 use Rattle.c_tree.specs.Pieces.{Piece, want_of, IsWanted, mark, separated}
-use Rattle.c_tree.specs.Expressions.{wants_of_expr}
-use Rattle.c_tree.specs.Grammar.{binds, has_some}
-use Rattle.c_tree.proofs.Wanted.{wants_Expr_Name, wants_Expr_Literal, wants_Expr_Call}
-use Rattle.c_tree.proofs.Grammatical.{is_Expr_Name, is_Expr_Literal, is_Expr_Call}
+use Rattle.c_tree.specs.Folds.{wants_of_expr, binds}
+use Rattle.c_tree.specs.Expressions.{has_some}
+use Rattle.c_tree.proofs.FoldsLaws.{wants_Expr_Name, wants_Expr_Literal, wants_Expr_Call, is_Expr_Name, is_Expr_Literal, is_Expr_Call}
 use Rattle.c_tree.specs.declared.token.Place.{Place}
 use Rattle.c_tree.specs.declared.token.Token.{Token}
 use Rattle.c_tree.specs.declared.token.TokenKind.{TokenKind}
 use Rattle.c_tree.specs.declared.token.TokenKind.TheVariants.{Mark, Name}
-use Rattle.c_tree.specs.declared.expressions.Prefix.{Prefix}
-use Rattle.c_tree.specs.declared.expressions.Prefix.TheVariants as prefix
+use Rattle.c_tree.specs.declared.expressions.UnaryOperator.{UnaryOperator}
+use Rattle.c_tree.specs.declared.expressions.UnaryOperator.TheVariants as prefix
 use Rattle.c_tree.specs.Operators.{text_of_prefix}
-use Rattle.c_tree.specs.declared.expressions.Named.{Named}
+use Rattle.c_tree.specs.declared.expressions.Identifier.{Identifier}
 use Rattle.c_tree.specs.declared.expressions.Literal.{Literal}
 use Rattle.c_tree.specs.declared.expressions.Literal.TheVariants as literal
 use Rattle.c_tree.specs.declared.expressions.Expr.{Expr}
 use Rattle.c_tree.specs.declared.expressions.Expr.TheVariants as expr
-use Rattle.c_expr.specs.Reading.{give, choose}
-use Rattle.c_expr.specs.Tokens.{kind_number, is_mark, is_spelled, is_kind, goes_on, goes_by, suffix_by, spelled_by, found_by, found_in}
-use Rattle.c_expr.specs.Expressions.{Inner, read_arguments, read_call, read_named, read_literal, separated_by}
-use Rattle.c_expr.proofs.Reader.{Language, Of, Reads}
-use Rattle.c_expr.proofs.Binding.{Both, bind_reads}
-use Rattle.c_expr.proofs.Giving.{Given, give_reads, reads_as}
-use Rattle.c_expr.proofs.Taking.{Single}
-use Rattle.c_expr.proofs.Choosing.{FirstIs, Either, this, that, choose_reads}
-use Rattle.c_expr.proofs.Repeating.{given_stops}
-use Rattle.c_expr.proofs.Beginning.{Begins, begins_both, begins_single, SomeOf, some_both, some_single, some_given}
-use Rattle.c_expr.proofs.Joining.{in_both, in_single, in_given, onto, join4}
-use Rattle.c_expr.proofs.Listing.{SeparatedOf, separated_reads, list_all_map}
-use Rattle.c_expr.proofs.Spelt.{by_text, kind_yes, spelled_is, spelled_yes, spelt, spelt_at, named, literal_piece, spelt_reads, spelt_at_reads, named_reads, literal_reads}
+use Rattle.c_reader.specs.Reading.{give, choose}
+use Rattle.c_reader.specs.Tokens.{kind_number, is_mark, is_spelled, is_kind, spelled_by, found_by, found_in}
+use Rattle.c_expr.specs.Tokens.{goes_on, goes_by, suffix_by}
+use Rattle.c_expr.specs.Expressions.{Inner, read_arguments, read_call, read_named, read_literal}
+use Rattle.c_reader.specs.Lists.{separated_by}
+use Rattle.c_reader.proofs.Reader.{Language, Of, Reads}
+use Rattle.c_reader.proofs.Binding.{Both, bind_reads}
+use Rattle.c_reader.proofs.Giving.{Given, give_reads, reads_as}
+use Rattle.c_reader.proofs.Taking.{Single}
+use Rattle.c_reader.proofs.Choosing.{FirstIs, Either, this, that, choose_reads}
+use Rattle.c_reader.proofs.Repeating.{given_stops}
+use Rattle.c_reader.proofs.Beginning.{Begins, begins_both, begins_single, SomeOf, some_both, some_single, some_given}
+use Rattle.c_reader.proofs.Joining.{in_both, in_single, in_given, onto, join4}
+use Rattle.c_reader.proofs.Listing.{SeparatedOf, separated_reads, list_all_map}
+use Rattle.c_reader.proofs.Spelt.{by_text, kind_yes, spelled_is, spelled_yes, spelt, spelt_at, named, spelt_reads, spelt_at_reads, named_reads}
+use Rattle.c_expr.proofs.Literals.{literal_piece, literal_reads}
 use Rattle.c_expr.proofs.Starting.{Suits, expr_leads, leads_append, begins_cons, begins_at}
 use Rattle.c_expr.proofs.Suffixes.{At, Stops, Any, InnerReads, no_name, some_at}
-use Rattle.c_expr.proofs.Truths.{and_left, and_right}
+use Rattle.c_reader.proofs.Truths.{and_left, and_right}
 
 -- no bracket stands behind a name
 abbrev pub StopsName : List Token → Type 0
@@ -50,12 +52,12 @@ unfolding FirstIs
 first_from kind text by b is [] first = absurd (cc)
 first_from kind text by b is (w ∷ rest) first = let w_is = spelled_is kind text w first in by_text by kind text b w w_is.0 w_is.1 is
 
-pub prefix_all : (test : TokenKind → List ℕ → Bool) (b : Bool) → test Mark (codes "+") ≡ b → test Mark (codes "-") ≡ b → test Mark (codes "~") ≡ b → test Mark (codes "!") ≡ b → test Mark (codes "*") ≡ b → test Mark (codes "&") ≡ b → (o : Prefix) → test Mark (text_of_prefix o) ≡ b
+pub prefix_all : (test : TokenKind → List ℕ → Bool) (b : Bool) → test Mark (codes "+") ≡ b → test Mark (codes "-") ≡ b → test Mark (codes "~") ≡ b → test Mark (codes "!") ≡ b → test Mark (codes "*") ≡ b → test Mark (codes "&") ≡ b → (o : UnaryOperator) → test Mark (text_of_prefix o) ≡ b
 prefix_all test b h1 h2 h3 h4 h5 h6 prefix.Plus = h1
 prefix_all test b h1 h2 h3 h4 h5 h6 prefix.Minus = h2
 prefix_all test b h1 h2 h3 h4 h5 h6 prefix.Complement = h3
 prefix_all test b h1 h2 h3 h4 h5 h6 prefix.Not = h4
-prefix_all test b h1 h2 h3 h4 h5 h6 prefix.Target = h5
+prefix_all test b h1 h2 h3 h4 h5 h6 prefix.Indirection = h5
 prefix_all test b h1 h2 h3 h4 h5 h6 prefix.Address = h6
 
 -- no expression begins with a closing bracket
@@ -105,7 +107,7 @@ module _ (most size n left : ℕ) (level : n + left ≡ most + 1) (inner : Inner
 
   -- ---- calls, names and literals
 
-  abbrev pub CallL : Named → Language Expr
+  abbrev pub CallL : Identifier → Language Expr
   CallL name = Both (Single (spelt_at Mark (codes "(") n)) (λ place. Both Arguments (λ arguments. Both (Single (spelt Mark (codes ")") n)) (λ closing. Given (expr.Call name place arguments))))
 
   closes : Begins (Single (spelt Mark (codes ")") n)) (is_mark (codes ")")) true
@@ -116,7 +118,7 @@ module _ (most size n left : ℕ) (level : n + left ≡ most + 1) (inner : Inner
   unfolding separated
   some_arguments = ([], ([], record { grammar = refl; wants = refl }))
 
-  call_reads : (Behind : List Token → Type 0) (name : Named) → Reads (CallL name) most size Behind (read_call size left inner name)
+  call_reads : (Behind : List Token → Type 0) (name : Identifier) → Reads (CallL name) most size Behind (read_call size left inner name)
   unfolding read_call
   call_reads Behind name =
       bind_reads _ _ most size Any Behind _ _ (spelt_at_reads most size Any Mark (codes "(") n left level)
@@ -132,7 +134,7 @@ module _ (most size n left : ℕ) (level : n + left ≡ most + 1) (inner : Inner
   abbrev pub NamedL : Language Expr
   NamedL = Both (Single (named Name n)) (λ name. Either (CallL name) (Given (expr.Name name)))
 
-  opens : (name : Named) → Begins (CallL name) (is_mark (codes "(")) true
+  opens : (name : Identifier) → Begins (CallL name) (is_mark (codes "(")) true
   unfolding IsWanted
   opens name = begins_both _ _ (is_mark (codes "(")) true (begins_single (spelt_at Mark (codes "(") n) (is_mark (codes "(")) true (λ place w takes. spelled_yes Mark (codes "(") w takes.0.0 takes.0.1))
 
@@ -186,7 +188,7 @@ module _ (most size n left : ℕ) (level : n + left ≡ most + 1) (inner : Inner
 
   -- ---- the same by trees
 
-  call_flat : (name : Named) (place : Place) (arguments : List Expr)
+  call_flat : (name : Identifier) (place : Place) (arguments : List Expr)
       → (named Name n name ∷ []) ++ ((spelt_at Mark (codes "(") n place ∷ []) ++ (separated (codes ",") (map wants_of_expr arguments) (n + 1) ++ ((spelt Mark (codes ")") n tt ∷ []) ++ []))) ≡ wants_of_expr (expr.Call name place arguments) n
   call_flat name place arguments =
       join4 (named Name n name ∷ []) (spelt_at Mark (codes "(") n place ∷ []) (separated (codes ",") (map wants_of_expr arguments) (n + 1)) (spelt Mark (codes ")") n tt ∷ []) ∙ sym (ap (λ f. f n) (wants_Expr_Call name place arguments))
@@ -213,14 +215,14 @@ module _ (most size n left : ℕ) (level : n + left ≡ most + 1) (inner : Inner
         wants = onto b.whole b.left.one b.right.none ∙ sym (ap (λ f. f n) (wants_Expr_Literal b.first.0 b.first.1)) ∙ ap (λ u. wants_of_expr u n) (sym b.right.tree_is);
       }
 
-  pub from_name : (name : Named) (ps : List Piece) → At 13 n (expr.Name name) ps → PlainL (expr.Name name) ps
+  pub from_name : (name : Identifier) (ps : List Piece) → At 13 n (expr.Name name) ps → PlainL (expr.Name name) ps
   from_name name ps is = this (subst (λ u. NamedL (expr.Name name) u) (sym (ap (λ f. f n) (wants_Expr_Name name)) ∙ sym is.wants) (in_both _ _ _ _ _ name (in_single (named Name n) name) (that (in_given (expr.Name name)))))
 
   pub from_literal : (place : Place) (value : Literal) (ps : List Piece) → At 13 n (expr.Literal place value) ps → PlainL (expr.Literal place value) ps
   from_literal place value ps is =
       that (subst (λ u. LiteralL (expr.Literal place value) u) (sym (ap (λ f. f n) (wants_Expr_Literal place value)) ∙ sym is.wants) (in_both _ _ _ _ _ (place, value) (in_single (literal_piece n) (place, value)) (in_given (expr.Literal place value))))
 
-  pub from_call : (name : Named) (place : Place) (arguments : List Expr) (ps : List Piece) → At 13 n (expr.Call name place arguments) ps → PlainL (expr.Call name place arguments) ps
+  pub from_call : (name : Identifier) (place : Place) (arguments : List Expr) (ps : List Piece) → At 13 n (expr.Call name place arguments) ps → PlainL (expr.Call name place arguments) ps
   from_call name place arguments ps is =
       let all : list_all (λ argument. argument 0) (map binds arguments) ≡ true = sym (ap (λ f. f 13) (is_Expr_Call name place arguments)) ∙ is.grammar in
       this (subst (λ u. NamedL (expr.Call name place arguments) u) (call_flat name place arguments ∙ sym is.wants)

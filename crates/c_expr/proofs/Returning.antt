@@ -3,20 +3,21 @@ use Rattle.std.proofs.Common.{◌≡◌, ◌≤◌, ◌<◌, ℕ, ◌+◌, ◌-�
 use Rattle.std.proofs.lemmas.List.{append-nil, length-append}
 use Rattle.std.specs.Bool.{then_some}
 use Rattle.c_tree.specs.TokenLists.{is_closed}
-use Rattle.c_tree.specs.Expressions.{wants_of_expr}
+use Rattle.c_tree.specs.Folds.{wants_of_expr}
 use Rattle.c_tree.specs.declared.token.Token.{Token}
 use Rattle.c_tree.specs.declared.expressions.Expr.{Expr}
-use Rattle.c_expr.specs.Reading.{Answer}
-use Rattle.c_expr.specs.Reading as reading
+use Rattle.c_reader.specs.Reading.{Answer}
+use Rattle.c_reader.specs.Reading as reading
 use Rattle.c_expr.specs.Levels.{readers_at}
-use Rattle.c_expr.specs.Alone.{all_but_one, alone, fault_of}
-use Rattle.c_expr.specs.Runs.{AreShallow, SpellsExpr, IsRun, IsTaken, IsFaultOf}
-use Rattle.c_expr.specs.Samples.{is_taken, can_stand}
-use Rattle.c_expr.specs.declared.faults.SyntaxFault.{SyntaxFault}
-use Rattle.c_expr.specs.declared.faults.SyntaxFault.TheVariants as fault
+use Rattle.c_reader.specs.Alone.{all_but_one, alone, fault_of}
+use Rattle.c_reader.specs.Depths.{AreShallow}
+use Rattle.c_expr.specs.Runs.{SpellsExpr, IsRun, IsTaken, IsFaultOf}
+use Rattle.c_reader.specs.Samples.{is_taken, can_stand}
+use Rattle.c_reader.specs.declared.faults.SyntaxFault.{SyntaxFault}
+use Rattle.c_reader.specs.declared.faults.SyntaxFault.TheVariants as fault
 use Rattle.c_expr.proofs.Answering.{good_front, bad_front, taken_good, deep_is, deep_none, taken_alone, fault_is, fault_none}
-use Rattle.c_expr.proofs.Ending.{front_is, behind_is}
-use Rattle.c_expr.proofs.Truths.{not_true}
+use Rattle.c_reader.proofs.Ending.{front_is, behind_is}
+use Rattle.c_reader.proofs.Truths.{not_true}
 
 -- ---- what an answer tells of a list with an end behind it
 

@@ -3,18 +3,22 @@ use Rattle.std.proofs.Common.{◌≡◌, ◌≤◌, ℕ, zero, suc, Bool, true, 
 use Rattle.c_tree.specs.TypeWords.{Counts, no_words, with_word}
 use Rattle.c_tree.specs.declared.token.Place.{Place}
 use Rattle.c_tree.specs.declared.token.Token.{Token}
+use Rattle.c_tree.specs.declared.expressions.TrailingComma.{TrailingComma}
+use Rattle.c_tree.specs.declared.expressions.TrailingComma.TheVariants.{Absent, Present}
 use Rattle.c_tree.specs.declared.token.TokenKind.TheVariants.{Name}
-use Rattle.c_tree.specs.declared.expressions.Named.{Named}
+use Rattle.c_tree.specs.declared.expressions.Identifier.{Identifier}
 use Rattle.c_tree.specs.declared.expressions.Expr.{Expr}
 use Rattle.c_tree.specs.declared.expressions.Expr.TheVariants as expr
-use Rattle.c_tree.specs.declared.expressions.Specs.{Specs}
-use Rattle.c_expr.specs.Reading.{Reader, ◌>>=◌, give, take_as, choose, many}
-use Rattle.c_expr.specs.Reading as reading
-use Rattle.c_expr.specs.Tokens.{is_mark, is_kind, is_suffix, starts_type}
-use Rattle.c_expr.specs.Expressions.{Inner, separated_by, read_arguments, read_call, read_named, read_literal, read_index, read_member, read_arrow, read_suffix, read_behind, read_primary, read_cast, read_group, read_bracketed, read_prefixed, read_unary, read_operand, read_chain, read_choice, read_expr}
-use Rattle.c_expr.specs.Types.{agrees, read_more, read_words, read_type_words, read_size, read_dimension, read_dimensions, read_dimensioned, read_members_of, read_struct_body, read_struct_behind, read_struct, read_value, read_enumerator, read_enum_body, read_enum_behind, read_enum, read_tag, read_spelling, read_constants, read_specs}
+use Rattle.c_tree.specs.declared.expressions.Specifiers.{Specifiers}
+use Rattle.c_reader.specs.Reading.{Reader, ◌>>=◌, give, take_as, choose, many}
+use Rattle.c_reader.specs.Reading as reading
+use Rattle.c_reader.specs.Tokens.{is_mark, is_kind}
+use Rattle.c_expr.specs.Tokens.{is_suffix, starts_type}
+use Rattle.c_expr.specs.Expressions.{Inner, read_arguments, read_call, read_named, read_literal, read_index, read_member, read_arrow, read_suffix, read_behind, read_primary, read_cast, read_group, read_bracketed, read_prefixed, read_unary, read_operand, read_chain, read_choice, read_expr}
+use Rattle.c_reader.specs.Lists.{separated_by, read_more}
+use Rattle.c_expr.specs.Types.{agrees, read_words, read_type_words, read_size, read_dimension, read_dimensions, read_dimensioned, read_members_of, read_struct_body, read_struct_behind, read_struct, read_value, read_enumerator, read_enum_body, read_enum_behind, read_enum, read_tag, read_spelling, read_constants, read_specs}
 use Rattle.c_expr.specs.Levels.{readers_at}
-use Rattle.c_expr.proofs.Shrinking.{Like, like_give, like_take, like_less, like_bind, then_some, then_any, then_last, like_any, like_choose, like_none, like_many}
+use Rattle.c_reader.proofs.Shrinking.{Like, like_give, like_take, like_less, like_bind, then_some, then_any, then_last, like_any, like_choose, like_none, like_many}
 
 module _ (k s t : ℕ) (enough : k ≤ s) (also : k ≤ t) where
   take : {A : Type 0} (test : Token → Bool) (value : Token → A) (left : ℕ) → Like k 1 (take_as test value left) (take_as test value left)
@@ -31,14 +35,14 @@ module _ (k s t : ℕ) (enough : k ≤ s) (also : k ≤ t) where
   -- ---- lists that may end with a mark, and words
 
   module _ {A : Type 0} (text : List ℕ) (starts : Token → Bool) (left : ℕ) (f f' : Reader A) (F : Like k 1 f f') where
-    more_none : (size : ℕ) (g : Reader A) → read_more size text starts left g [] ≡ reading.good ([], false) []
+    more_none : (size : ℕ) (g : Reader A) → read_more size text starts left g [] ≡ reading.good ([], Absent) []
     unfolding read_more choose
     more_none zero g = refl
     more_none (suc size) g = refl
 
     more_at : (m a b : ℕ) → m ≤ k → m ≤ a → m ≤ b → Like m 0 (read_more a text starts left f) (read_more b text starts left f')
     unfolding read_more
-    more_at zero a b low one two = like_none (read_more a text starts left f) (read_more b text starts left f') ([], false) (more_none a f) (more_none b f')
+    more_at zero a b low one two = like_none (read_more a text starts left f) (read_more b text starts left f') ([], Absent) (more_none a f) (more_none b f')
     more_at (suc m) zero b low one two = absurd (omega (arith, one))
     more_at (suc m) (suc a) zero low one two = absurd (omega (arith, two))
     more_at (suc m) (suc a) (suc b) low one two =
@@ -48,8 +52,8 @@ module _ (k s t : ℕ) (enough : k ≤ s) (also : k ≤ t) where
         (λ separator. like_choose m 0 starts _ _ _ _
         (then_any m _ _ _ _ (like_less k m 1 0 f f' (omega (arith, low)) (omega arith) F)
         (λ x. then_any m _ _ _ _ (more_at m a b (omega (arith, low)) (omega (arith, one)) (omega (arith, two))) (λ rest. like_give m (x ∷ rest.0, rest.1))))
-        (like_give m ([], true))) (omega arith)))
-        (like_give (suc m) ([], false))
+        (like_give m ([], Present))) (omega arith)))
+        (like_give (suc m) ([], Absent))
 
     pub more_like : Like k 0 (read_more s text starts left f) (read_more t text starts left f')
     more_like = more_at k s t (omega arith) enough also
@@ -89,7 +93,7 @@ module _ (k s t : ℕ) (enough : k ≤ s) (also : k ≤ t) where
 
   -- ---- expressions
 
-  module _ (l : ℕ) (u u' : Reader Expr) (e e' : Reader Expr) (p p' : Reader Specs) (U : Like k 1 u u') (E : Like k 1 e e') (P : Like k 1 p p') where
+  module _ (l : ℕ) (u u' : Reader Expr) (e e' : Reader Expr) (p p' : Reader Specifiers) (U : Like k 1 u u') (E : Like k 1 e e') (P : Like k 1 p p') where
     abbrev one : Inner
     one = record { left = l; unary = u; expr = e; specs = p }
 
@@ -100,7 +104,7 @@ module _ (k s t : ℕ) (enough : k ≤ s) (also : k ≤ t) where
     unfolding read_arguments
     arguments_like = like_choose k 0 _ _ _ _ _ (like_give k []) (like_any k _ _ (separated_like (codes ",") l e e' E))
 
-    call_like : (left : ℕ) (name : Named) → Like k 1 (read_call s left one name) (read_call t left other name)
+    call_like : (left : ℕ) (name : Identifier) → Like k 1 (read_call s left one name) (read_call t left other name)
     unfolding read_call
     call_like left name = then_some k _ _ _ _ (take _ _ left) (λ place. then_any k _ _ _ _ arguments_like (λ arguments. then_any k _ _ _ _ (like_any k _ _ (take _ _ left)) (λ closing. like_give k _)))
 
@@ -189,7 +193,7 @@ module _ (k s t : ℕ) (enough : k ≤ s) (also : k ≤ t) where
         then_some k _ _ _ _ (take _ _ l)
         (λ opening. then_any k _ _ _ _ (like_any k _ _ members_like) (λ first. then_any k _ _ _ _ (many_like starts_type _ _ members_like) (λ rest. then_any k _ _ _ _ (like_any k _ _ (take _ _ l)) (λ closing. like_give k _))))
 
-    struct_behind_like : (place : Place) (name : Named) → Like k 0 (read_struct_behind s one place name) (read_struct_behind t other place name)
+    struct_behind_like : (place : Place) (name : Identifier) → Like k 0 (read_struct_behind s one place name) (read_struct_behind t other place name)
     unfolding read_struct_behind
     struct_behind_like place name = like_choose k 0 _ _ _ _ _ (then_any k _ _ _ _ (like_any k _ _ struct_body_like) (λ members. like_give k _)) (like_give k _)
 
@@ -213,7 +217,7 @@ module _ (k s t : ℕ) (enough : k ≤ s) (also : k ≤ t) where
           then_some k _ _ _ _ (take _ _ left)
           (λ opening. then_any k _ _ _ _ (like_any k _ _ enumerator_like) (λ first. then_any k _ _ _ _ (more_like (codes ",") (is_kind Name) left _ _ enumerator_like) (λ rest. then_any k _ _ _ _ (like_any k _ _ (take _ _ left)) (λ closing. like_give k _))))
 
-      enum_behind_like : (place : Place) (name : Named) → Like k 0 (read_enum_behind s left f place name) (read_enum_behind t left f' place name)
+      enum_behind_like : (place : Place) (name : Identifier) → Like k 0 (read_enum_behind s left f place name) (read_enum_behind t left f' place name)
       unfolding read_enum_behind
       enum_behind_like place name = like_choose k 0 _ _ _ _ _ (then_any k _ _ _ _ (like_any k _ _ enum_body_like) (λ body. like_give k _)) (like_give k _)
 

@@ -4,32 +4,31 @@ use Rattle.std.proofs.lemmas.Bool.{leb-true}
 use Rattle.std.specs.List.{list_all}
 use Rattle.c_tree.specs.Pieces.{Piece, spelled, valued, IsWanted, Takes, Fits, literal_at}
 use Rattle.c_tree.specs.Operators.{level_of, text_of_prefix}
-use Rattle.c_tree.specs.Expressions.{wants_of_expr}
-use Rattle.c_tree.specs.Grammar.{binds, has_some, operand_level, is_suffix_tree}
+use Rattle.c_tree.specs.Folds.{wants_of_expr, binds, operand_level, is_suffix_tree}
+use Rattle.c_tree.specs.Expressions.{has_some}
 use Rattle.c_tree.proofs.Cases.{cases_Expr}
-use Rattle.c_tree.proofs.Wanted.{wants_Expr_Name, wants_Expr_Literal, wants_Expr_Call, wants_Expr_Group, wants_Expr_Postfix, wants_Expr_Prefix, wants_Expr_Cast, wants_Expr_Chain, wants_Expr_Conditional}
-use Rattle.c_tree.proofs.Grammatical.{is_Expr_Postfix, is_Expr_Chain, is_Expr_Conditional, is_Operand}
+use Rattle.c_tree.proofs.FoldsLaws.{wants_Expr_Name, wants_Expr_Literal, wants_Expr_Call, wants_Expr_Parenthesized, wants_Expr_Postfix, wants_Expr_Unary, wants_Expr_Cast, wants_Expr_BinaryChain, wants_Expr_Conditional, is_Expr_Postfix, is_Expr_BinaryChain, is_Expr_Conditional, is_Operand}
 use Rattle.c_tree.specs.declared.token.Place.{Place}
 use Rattle.c_tree.specs.declared.token.Token.{Token}
 use Rattle.c_tree.specs.declared.token.TokenKind.{TokenKind}
 use Rattle.c_tree.specs.declared.token.TokenKind.TheVariants.{Word, Name, Integer, Character, Mark}
-use Rattle.c_tree.specs.declared.expressions.Named.{Named}
-use Rattle.c_tree.specs.declared.expressions.Specs.{Specs}
+use Rattle.c_tree.specs.declared.expressions.Identifier.{Identifier}
+use Rattle.c_tree.specs.declared.expressions.Specifiers.{Specifiers}
 use Rattle.c_tree.specs.declared.expressions.Expr.TheViews.{out-Operand, roll-out-Operand}
 use Rattle.c_tree.specs.declared.expressions.Literal.{Literal}
 use Rattle.c_tree.specs.declared.expressions.Literal.TheVariants as literal
-use Rattle.c_tree.specs.declared.expressions.Operator.{Operator}
-use Rattle.c_tree.specs.declared.expressions.Operator.TheVariants as operator
-use Rattle.c_tree.specs.declared.expressions.Prefix.{Prefix}
+use Rattle.c_tree.specs.declared.expressions.BinaryOperator.{BinaryOperator}
+use Rattle.c_tree.specs.declared.expressions.BinaryOperator.TheVariants as operator
+use Rattle.c_tree.specs.declared.expressions.UnaryOperator.{UnaryOperator}
 use Rattle.c_tree.specs.declared.expressions.Operand.{Operand}
 use Rattle.c_tree.specs.declared.expressions.Suffix.{Suffix}
 use Rattle.c_tree.specs.declared.expressions.Expr.{Expr}
 use Rattle.c_tree.specs.declared.expressions.Expr.TheVariants as expr
-use Rattle.c_expr.proofs.Choosing.{FirstIs}
-use Rattle.c_expr.proofs.Beginning.{Begins}
-use Rattle.c_expr.proofs.Spelt.{by_text}
+use Rattle.c_reader.proofs.Choosing.{FirstIs}
+use Rattle.c_reader.proofs.Beginning.{Begins}
+use Rattle.c_reader.proofs.Spelt.{by_text}
 use Rattle.c_expr.proofs.Suffixes.{At}
-use Rattle.c_expr.proofs.Truths.{not_true, and_left, and_right}
+use Rattle.c_reader.proofs.Truths.{not_true, and_left, and_right}
 
 -- a test by kind and text has this answer at each token with which an expression can begin
 pub record Suits (test : TokenKind → List ℕ → Bool) (b : Bool) : Type 0 where
@@ -39,11 +38,11 @@ pub record Suits (test : TokenKind → List ℕ → Bool) (b : Bool) : Type 0 wh
   pub yes_ : test Word (codes "true") ≡ b
   pub no_ : test Word (codes "false") ≡ b
   pub bracket : test Mark (codes "(") ≡ b
-  pub prefix : (operator : Prefix) → test Mark (text_of_prefix operator) ≡ b
+  pub prefix : (operator : UnaryOperator) → test Mark (text_of_prefix operator) ≡ b
 
-pub level_low : (o : Operator) → level_of o ≤ 10
-level_low operator.OrElse = omega arith
-level_low operator.AndThen = omega arith
+pub level_low : (o : BinaryOperator) → level_of o ≤ 10
+level_low operator.LogicalOr = omega arith
+level_low operator.LogicalAnd = omega arith
 level_low operator.Or = omega arith
 level_low operator.Xor = omega arith
 level_low operator.And = omega arith
@@ -61,9 +60,9 @@ level_low operator.Multiply = omega arith
 level_low operator.Divide = omega arith
 level_low operator.Remainder = omega arith
 
-pub level_high : (o : Operator) → 1 ≤ level_of o
-level_high operator.OrElse = omega arith
-level_high operator.AndThen = omega arith
+pub level_high : (o : BinaryOperator) → 1 ≤ level_of o
+level_high operator.LogicalOr = omega arith
+level_high operator.LogicalAnd = omega arith
 level_high operator.Or = omega arith
 level_high operator.Xor = omega arith
 level_high operator.And = omega arith
@@ -118,11 +117,11 @@ pub operand_high : (operand : Operand) → 1 ≤ (operand_level operand).level
 operand_high operand = subst (λ t. 1 ≤ (operand_level t).level) (roll-out-Operand operand) (subst (λ u. 1 ≤ u.level) (sym (is_Operand (out-Operand operand).place (out-Operand operand).operator (out-Operand operand).value)) (level_high (out-Operand operand).operator))
 
 -- the level of a chain that binds so strongly
-pub chain_parts : (first : Expr) (operands : List Operand) (level : ℕ) → binds (expr.Chain first operands) level ≡ true
+pub chain_parts : (first : Expr) (operands : List Operand) (level : ℕ) → binds (expr.BinaryChain first operands) level ≡ true
     → (l : ℕ) × ((level ≤ l) × (l ≤ 10) × (1 ≤ l) × (binds first (l + 1) ≡ true) × (list_all (λ o. (o.level == l) && o.value (o.level + 1)) (map operand_level operands) ≡ true))
-chain_parts first [] level h = absurd (not_true (sym (ap (λ f. f level) (is_Expr_Chain first [])) ∙ h))
+chain_parts first [] level h = absurd (not_true (sym (ap (λ f. f level) (is_Expr_BinaryChain first [])) ∙ h))
 chain_parts first (operand ∷ operands) level h =
-    let all = sym (ap (λ f. f level) (is_Expr_Chain first (operand ∷ operands))) ∙ h in
+    let all = sym (ap (λ f. f level) (is_Expr_BinaryChain first (operand ∷ operands))) ∙ h in
     let o = operand_level operand in
     let rest = list_all (λ p. (p.level == o.level) && p.value (p.level + 1)) (map operand_level (operand ∷ operands)) in
     let left = and_left (nat_le level o.level && binds first (o.level + 1)) rest all in (
@@ -162,29 +161,29 @@ module _ (test : TokenKind → List ℕ → Bool) (b : Bool) (s : Suits test b) 
   abbrev Lead : Expr → Type 0
   Lead e = Leads test b n (wants_of_expr e n)
 
-  of_name : (named : Named) → Lead (expr.Name named)
+  of_name : (named : Identifier) → Lead (expr.Name named)
   of_name named = subst (λ f. Leads test b n (f n)) (sym (wants_Expr_Name named)) (leads_spelled test b n (Some named.place) Name named.text [] (s.name named.text))
 
   of_literal : (place : Place) (value : Literal) → Lead (expr.Literal place value)
   of_literal place value = subst (λ f. Leads test b n (f n)) (sym (wants_Expr_Literal place value)) (leads_literal test b n place value s)
 
-  of_call : (named : Named) (place : Place) (arguments : List Expr) → Lead (expr.Call named place arguments)
+  of_call : (named : Identifier) (place : Place) (arguments : List Expr) → Lead (expr.Call named place arguments)
   of_call named place arguments = subst (λ f. Leads test b n (f n)) (sym (wants_Expr_Call named place arguments)) (leads_spelled test b n (Some named.place) Name named.text _ (s.name named.text))
 
-  of_group : (place : Place) (value : Expr) → Lead (expr.Group place value)
-  of_group place value = subst (λ f. Leads test b n (f n)) (sym (wants_Expr_Group place value)) (leads_spelled test b n (Some place) Mark (codes "(") _ s.bracket)
+  of_group : (place : Place) (value : Expr) → Lead (expr.Parenthesized place value)
+  of_group place value = subst (λ f. Leads test b n (f n)) (sym (wants_Expr_Parenthesized place value)) (leads_spelled test b n (Some place) Mark (codes "(") _ s.bracket)
 
-  of_prefix : (place : Place) (operator : Prefix) (operand : Expr) → Lead (expr.Prefix place operator operand)
-  of_prefix place operator operand = subst (λ f. Leads test b n (f n)) (sym (wants_Expr_Prefix place operator operand)) (leads_spelled test b n (Some place) Mark (text_of_prefix operator) _ (s.prefix operator))
+  of_prefix : (place : Place) (operator : UnaryOperator) (operand : Expr) → Lead (expr.Unary place operator operand)
+  of_prefix place operator operand = subst (λ f. Leads test b n (f n)) (sym (wants_Expr_Unary place operator operand)) (leads_spelled test b n (Some place) Mark (text_of_prefix operator) _ (s.prefix operator))
 
-  of_cast : (place : Place) (specs : Specs) (operand : Expr) → Lead (expr.Cast place specs operand)
+  of_cast : (place : Place) (specs : Specifiers) (operand : Expr) → Lead (expr.Cast place specs operand)
   of_cast place specs operand = subst (λ f. Leads test b n (f n)) (sym (wants_Expr_Cast place specs operand)) (leads_spelled test b n (Some place) Mark (codes "(") _ s.bracket)
 
   of_postfix : (primary : Expr) (suffixes : List Suffix) → Lead primary → Lead (expr.Postfix primary suffixes)
   of_postfix primary suffixes lead = subst (λ f. Leads test b n (f n)) (sym (wants_Expr_Postfix primary suffixes)) (leads_append test b n _ _ lead)
 
-  of_chain : (first : Expr) (operands : List Operand) → Lead first → Lead (expr.Chain first operands)
-  of_chain first operands lead = subst (λ f. Leads test b n (f n)) (sym (wants_Expr_Chain first operands)) (leads_append test b n _ _ lead)
+  of_chain : (first : Expr) (operands : List Operand) → Lead first → Lead (expr.BinaryChain first operands)
+  of_chain first operands lead = subst (λ f. Leads test b n (f n)) (sym (wants_Expr_BinaryChain first operands)) (leads_append test b n _ _ lead)
 
   of_conditional : (condition : Expr) (place : Place) (second third : Expr) → Lead condition → Lead (expr.Conditional condition place second third)
   of_conditional condition place second third lead =

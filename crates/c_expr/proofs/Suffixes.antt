@@ -2,37 +2,36 @@
 use Rattle.std.proofs.Common.{◌≡◌, ◌≤◌, ℕ, ◌+◌, Bool, true, false, List, [], ◌∷◌, ◌++◌, refl, sym, ap, ◌∙◌, subst, arith, codes}
 use Rattle.std.proofs.lemmas.Bool.{le-leb}
 use Rattle.c_tree.specs.Pieces.{Piece, IsWanted}
-use Rattle.c_tree.specs.Expressions.{wants_of_expr, wants_of_specs, wants_of_suffix}
-use Rattle.c_tree.specs.Grammar.{binds, are_specs, is_suffix_tree}
-use Rattle.c_tree.proofs.Wanted.{wants_Suffix_Index, wants_Suffix_Member, wants_Suffix_Arrow}
-use Rattle.c_tree.proofs.Grammatical.{is_Suffix_Index, is_Suffix_Member, is_Suffix_Arrow, is_Expr_Name}
+use Rattle.c_tree.specs.Folds.{wants_of_expr, wants_of_specs, wants_of_suffix, binds, are_specs, is_suffix_tree}
+use Rattle.c_tree.proofs.FoldsLaws.{wants_Suffix_Index, wants_Suffix_Member, wants_Suffix_Arrow, is_Suffix_Index, is_Suffix_Member, is_Suffix_Arrow, is_Expr_Name}
 use Rattle.c_tree.proofs.Cases.{cases_Suffix}
 use Rattle.c_tree.specs.declared.token.Place.{Place}
 use Rattle.c_tree.specs.declared.token.Token.{Token}
 use Rattle.c_tree.specs.declared.token.TokenKind.TheVariants.{Mark, Name}
-use Rattle.c_tree.specs.declared.expressions.Named.{Named}
+use Rattle.c_tree.specs.declared.expressions.Identifier.{Identifier}
 use Rattle.c_tree.specs.declared.expressions.Expr.{Expr}
 use Rattle.c_tree.specs.declared.expressions.Expr.TheVariants as expr
-use Rattle.c_tree.specs.declared.expressions.Specs.{Specs}
+use Rattle.c_tree.specs.declared.expressions.Specifiers.{Specifiers}
 use Rattle.c_tree.specs.declared.expressions.Suffix.{Suffix}
 use Rattle.c_tree.specs.declared.expressions.Suffix.TheVariants as suffix
-use Rattle.c_expr.specs.Reading.{choose}
-use Rattle.c_expr.specs.Tokens.{is_mark, is_spelled, is_kind, goes_on, goes_by, suffix_by, spelled_by, found_by, found_in, type_goes_on}
+use Rattle.c_reader.specs.Reading.{choose}
+use Rattle.c_reader.specs.Tokens.{is_mark, is_spelled, is_kind, spelled_by, found_by, found_in}
+use Rattle.c_expr.specs.Tokens.{goes_on, goes_by, suffix_by, type_goes_on}
 use Rattle.c_expr.specs.Expressions.{Inner, read_index, read_member, read_arrow, read_suffix}
-use Rattle.c_expr.proofs.Reader.{Language, Of, Reads}
-use Rattle.c_expr.proofs.Binding.{Both, bind_reads}
-use Rattle.c_expr.proofs.Giving.{Given, give_reads, reads_as}
-use Rattle.c_expr.proofs.Taking.{Single}
-use Rattle.c_expr.proofs.Choosing.{FirstIs, Either, this, that, choose_reads}
-use Rattle.c_expr.proofs.Beginning.{Begins, begins_both, begins_single, begins_either, SomeOf, some_both, some_single, some_given}
-use Rattle.c_expr.proofs.Joining.{in_both, in_single, in_given, onto, join2, join3}
-use Rattle.c_expr.proofs.Spelt.{by_text, spelt, spelt_at, named, spelt_reads, spelt_at_reads, named_reads}
+use Rattle.c_reader.proofs.Reader.{Language, Of, Reads}
+use Rattle.c_reader.proofs.Binding.{Both, bind_reads}
+use Rattle.c_reader.proofs.Giving.{Given, give_reads, reads_as}
+use Rattle.c_reader.proofs.Taking.{Single}
+use Rattle.c_reader.proofs.Choosing.{FirstIs, Either, this, that, choose_reads}
+use Rattle.c_reader.proofs.Beginning.{Begins, begins_both, begins_single, begins_either, SomeOf, some_both, some_single, some_given}
+use Rattle.c_reader.proofs.Joining.{in_both, in_single, in_given, onto, join2, join3}
+use Rattle.c_reader.proofs.Spelt.{by_text, spelt, spelt_at, named, spelt_reads, spelt_at_reads, named_reads}
 
 -- the expressions that bind so strongly, nested so deeply
 abbrev pub At : ℕ → ℕ → Language Expr
 At level n = Of (λ tree. binds tree level) (λ tree. wants_of_expr tree n)
 
-abbrev pub SpecsAt : ℕ → Language Specs
+abbrev pub SpecsAt : ℕ → Language Specifiers
 SpecsAt n = Of are_specs (λ tree. wants_of_specs tree n)
 
 abbrev pub SuffixAt : ℕ → Language Suffix
@@ -54,7 +53,7 @@ pub record InnerReads (most size n : ℕ) (inner : Inner) : Type 0 where
   pub expr : Reads (At 0 (n + 1)) most size (Stops 0) inner.expr
   pub specs : Reads (SpecsAt (n + 1)) most size StopsType inner.specs
 
-abbrev pub no_name : Named
+abbrev pub no_name : Identifier
 no_name = record { place = record { line = 0; column = 0 }; text = [] }
 
 pub some_at : (level n : ℕ) → level ≤ 13 → SomeOf (At level n)
@@ -116,7 +115,7 @@ module _ (most size n left : ℕ) (level : n + left ≡ most + 1) (inner : Inner
       (λ place ps is. some_both _ _ (some_single (named Name n) no_name) (λ name. some_given (suffix.Member place name)))
       (λ place c qs ys rest is fits stop. tt)
 
-  member_flat : (place : Place) (name : Named) → (spelt_at Mark (codes ".") n place ∷ []) ++ ((named Name n name ∷ []) ++ []) ≡ wants_of_suffix (suffix.Member place name) n
+  member_flat : (place : Place) (name : Identifier) → (spelt_at Mark (codes ".") n place ∷ []) ++ ((named Name n name ∷ []) ++ []) ≡ wants_of_suffix (suffix.Member place name) n
   member_flat place name = join2 (spelt_at Mark (codes ".") n place ∷ []) (named Name n name ∷ []) ∙ sym (ap (λ f. f n) (wants_Suffix_Member place name))
 
   member_to : (s : Suffix) (ps : List Piece) → MemberL s ps → SuffixAt n s ps
@@ -130,7 +129,7 @@ module _ (most size n left : ℕ) (level : n + left ≡ most + 1) (inner : Inner
             ∙ member_flat place name ∙ ap (λ t. wants_of_suffix t n) (sym is);
       }
 
-  member_from : (place : Place) (name : Named) (ps : List Piece) → SuffixAt n (suffix.Member place name) ps → MemberL (suffix.Member place name) ps
+  member_from : (place : Place) (name : Identifier) (ps : List Piece) → SuffixAt n (suffix.Member place name) ps → MemberL (suffix.Member place name) ps
   member_from place name ps is =
       subst (λ u. MemberL (suffix.Member place name) u) (member_flat place name ∙ sym is.wants)
       (in_both _ _ _ _ _ place (in_single (spelt_at Mark (codes ".") n) place) (in_both _ _ _ _ _ name (in_single (named Name n) name) (in_given (suffix.Member place name))))
@@ -148,7 +147,7 @@ module _ (most size n left : ℕ) (level : n + left ≡ most + 1) (inner : Inner
       (λ place ps is. some_both _ _ (some_single (named Name n) no_name) (λ name. some_given (suffix.Arrow place name)))
       (λ place c qs ys rest is fits stop. tt)
 
-  arrow_flat : (place : Place) (name : Named) → (spelt_at Mark (codes "->") n place ∷ []) ++ ((named Name n name ∷ []) ++ []) ≡ wants_of_suffix (suffix.Arrow place name) n
+  arrow_flat : (place : Place) (name : Identifier) → (spelt_at Mark (codes "->") n place ∷ []) ++ ((named Name n name ∷ []) ++ []) ≡ wants_of_suffix (suffix.Arrow place name) n
   arrow_flat place name = join2 (spelt_at Mark (codes "->") n place ∷ []) (named Name n name ∷ []) ∙ sym (ap (λ f. f n) (wants_Suffix_Arrow place name))
 
   arrow_to : (s : Suffix) (ps : List Piece) → ArrowL s ps → SuffixAt n s ps
@@ -162,7 +161,7 @@ module _ (most size n left : ℕ) (level : n + left ≡ most + 1) (inner : Inner
             ∙ arrow_flat place name ∙ ap (λ t. wants_of_suffix t n) (sym is);
       }
 
-  arrow_from : (place : Place) (name : Named) (ps : List Piece) → SuffixAt n (suffix.Arrow place name) ps → ArrowL (suffix.Arrow place name) ps
+  arrow_from : (place : Place) (name : Identifier) (ps : List Piece) → SuffixAt n (suffix.Arrow place name) ps → ArrowL (suffix.Arrow place name) ps
   arrow_from place name ps is =
       subst (λ u. ArrowL (suffix.Arrow place name) u) (arrow_flat place name ∙ sym is.wants)
       (in_both _ _ _ _ _ place (in_single (spelt_at Mark (codes "->") n) place) (in_both _ _ _ _ _ name (in_single (named Name n) name) (in_given (suffix.Arrow place name))))

@@ -2,23 +2,22 @@
 use Rattle.std.proofs.Common.{◌≡◌, ℕ, Bool, true, List, [], ◌∷◌, ◌++◌, map, Some, option_map, sym, ◌∙◌, subst, codes}
 use Rattle.c_tree.specs.Pieces.{Piece, words_at, optional, name}
 use Rattle.c_tree.specs.TypeWords.{text_of_word, is_spelling, counts_from}
-use Rattle.c_tree.specs.Expressions.{wants_of_specs, wants_of_spelling, wants_of_tag, wants_of_member, wants_of_enumerator, type_words, struct_body, enum_body}
-use Rattle.c_tree.specs.Grammar.{are_specs, is_spelling_tree}
-use Rattle.c_tree.proofs.Cases.{cases_Specs, cases_Spelling, cases_Tag}
-use Rattle.c_tree.proofs.Wanted.{wants_Specs, wants_Spelling_Words, wants_Spelling_Tag, wants_Spelling_TypeName, wants_Tag_Struct, wants_Tag_Enum}
-use Rattle.c_tree.proofs.Grammatical.{is_Specs, is_Spelling_Words}
+use Rattle.c_tree.specs.Folds.{wants_of_specs, wants_of_spelling, wants_of_tag, wants_of_member, wants_of_enumerator, are_specs, is_spelling_tree}
+use Rattle.c_tree.specs.Types.{type_words, struct_body, enum_body}
+use Rattle.c_tree.proofs.Cases.{cases_Specifiers, cases_TypeSpecifier, cases_TagSpecifier}
+use Rattle.c_tree.proofs.FoldsLaws.{wants_Specifiers, wants_TypeSpecifier_Words, wants_TypeSpecifier_TagSpecifier, wants_TypeSpecifier_TypeName, wants_TagSpecifier_Struct, wants_TagSpecifier_Enum, is_Specifiers, is_TypeSpecifier_Words}
 use Rattle.c_tree.specs.declared.token.Place.{Place}
 use Rattle.c_tree.specs.declared.token.TokenKind.{TokenKind}
 use Rattle.c_tree.specs.declared.token.TokenKind.TheVariants.{Word, TypeName}
 use Rattle.c_tree.specs.declared.expressions.TypeWord.{TypeWord}
 use Rattle.c_tree.specs.declared.expressions.TypeWord.TheVariants as words
-use Rattle.c_tree.specs.declared.expressions.Specs.{Specs}
-use Rattle.c_tree.specs.declared.expressions.Spelling.{Spelling}
-use Rattle.c_tree.specs.declared.expressions.Tag.{Tag}
-use Rattle.c_expr.proofs.Beginning.{Begins}
+use Rattle.c_tree.specs.declared.expressions.Specifiers.{Specifiers}
+use Rattle.c_tree.specs.declared.expressions.TypeSpecifier.{TypeSpecifier}
+use Rattle.c_tree.specs.declared.expressions.TagSpecifier.{TagSpecifier}
+use Rattle.c_reader.proofs.Beginning.{Begins}
 use Rattle.c_expr.proofs.Starting.{Leads, leads_append, leads_spelled, begins_cons}
 use Rattle.c_expr.proofs.Suffixes.{SpecsAt}
-use Rattle.c_expr.proofs.Truths.{not_true}
+use Rattle.c_reader.proofs.Truths.{not_true}
 
 -- a test by kind and text has this answer at each token with which a type's spelling can begin
 pub record SuitsType (test : TokenKind → List ℕ → Bool) (b : Bool) : Type 0 where
@@ -47,10 +46,10 @@ word_all test b h0 h1 h2 h3 h4 h5 h6 h7 h8 h9 h10 h11 h12 h13 h14 h15 h16 words.
 word_all test b h0 h1 h2 h3 h4 h5 h6 h7 h8 h9 h10 h11 h12 h13 h14 h15 h16 words.Uint32 = h15
 word_all test b h0 h1 h2 h3 h4 h5 h6 h7 h8 h9 h10 h11 h12 h13 h14 h15 h16 words.Uint64 = h16
 
-pub tag_lead_by : (test : TokenKind → List ℕ → Bool) (b : Bool) (n : ℕ) → test Word (codes "struct") ≡ b → test Word (codes "enum") ≡ b → (t : Tag) → Leads test b n (wants_of_tag t n)
-tag_lead_by test b n of_struct of_enum = cases_Tag (λ t. Leads test b n (wants_of_tag t n))
-    (λ place named members. subst (λ f. Leads test b n (f n)) (sym (wants_Tag_Struct place named members)) (leads_append test b n _ (struct_body (option_map (map wants_of_member) members) n) (leads_append test b n _ (optional (option_map name named) n) (leads_spelled test b n (Some place) Word (codes "struct") [] of_struct))))
-    (λ place named constants comma. subst (λ f. Leads test b n (f n)) (sym (wants_Tag_Enum place named constants comma)) (leads_append test b n _ (enum_body (option_map (map wants_of_enumerator) constants) comma n) (leads_append test b n _ (optional (option_map name named) n) (leads_spelled test b n (Some place) Word (codes "enum") [] of_enum))))
+pub tag_lead_by : (test : TokenKind → List ℕ → Bool) (b : Bool) (n : ℕ) → test Word (codes "struct") ≡ b → test Word (codes "enum") ≡ b → (t : TagSpecifier) → Leads test b n (wants_of_tag t n)
+tag_lead_by test b n of_struct of_enum = cases_TagSpecifier (λ t. Leads test b n (wants_of_tag t n))
+    (λ place named members. subst (λ f. Leads test b n (f n)) (sym (wants_TagSpecifier_Struct place named members)) (leads_append test b n _ (struct_body (option_map (map wants_of_member) members) n) (leads_append test b n _ (optional (option_map name named) n) (leads_spelled test b n (Some place) Word (codes "struct") [] of_struct))))
+    (λ place named constants comma. subst (λ f. Leads test b n (f n)) (sym (wants_TagSpecifier_Enum place named constants comma)) (leads_append test b n _ (enum_body (option_map (map wants_of_enumerator) constants) comma n) (leads_append test b n _ (optional (option_map name named) n) (leads_spelled test b n (Some place) Word (codes "enum") [] of_enum))))
 
 module _ (test : TokenKind → List ℕ → Bool) (b : Bool) (s : SuitsType test b) (n : ℕ) where
   words_lead : (place : Place) (words : List TypeWord) → is_spelling words ≡ true → Leads test b n (type_words place words n)
@@ -58,23 +57,23 @@ module _ (test : TokenKind → List ℕ → Bool) (b : Bool) (s : SuitsType test
   words_lead place [] h = absurd (not_true h)
   words_lead place (first ∷ rest) h = leads_append test b n _ _ (leads_spelled test b n (Some place) Word (text_of_word first) [] (s.word first))
 
-  pub tag_lead : (t : Tag) → Leads test b n (wants_of_tag t n)
+  pub tag_lead : (t : TagSpecifier) → Leads test b n (wants_of_tag t n)
   tag_lead = tag_lead_by test b n s.struct_ s.enum_
 
-  kind_lead : (k : Spelling) → is_spelling_tree k ≡ true → Leads test b n (wants_of_spelling k n)
-  kind_lead = cases_Spelling (λ k. is_spelling_tree k ≡ true → Leads test b n (wants_of_spelling k n))
-      (λ place words h. subst (λ f. Leads test b n (f n)) (sym (wants_Spelling_Words place words)) (words_lead place words (sym (is_Spelling_Words place words) ∙ h)))
-      (λ t h. subst (λ f. Leads test b n (f n)) (sym (wants_Spelling_Tag t)) (tag_lead t))
-      (λ named h. subst (λ f. Leads test b n (f n)) (sym (wants_Spelling_TypeName named)) (leads_spelled test b n (Some named.place) TypeName named.text [] (s.type_name named.text)))
+  kind_lead : (k : TypeSpecifier) → is_spelling_tree k ≡ true → Leads test b n (wants_of_spelling k n)
+  kind_lead = cases_TypeSpecifier (λ k. is_spelling_tree k ≡ true → Leads test b n (wants_of_spelling k n))
+      (λ place words h. subst (λ f. Leads test b n (f n)) (sym (wants_TypeSpecifier_Words place words)) (words_lead place words (sym (is_TypeSpecifier_Words place words) ∙ h)))
+      (λ t h. subst (λ f. Leads test b n (f n)) (sym (wants_TypeSpecifier_TagSpecifier t)) (tag_lead t))
+      (λ named h. subst (λ f. Leads test b n (f n)) (sym (wants_TypeSpecifier_TypeName named)) (leads_spelled test b n (Some named.place) TypeName named.text [] (s.type_name named.text)))
 
   before_lead : (before : List Place) (kind : List Piece) → Leads test b n kind → Leads test b n (words_at before (codes "const") n ++ kind)
   unfolding words_at
   before_lead [] kind lead = lead
   before_lead (place ∷ before) kind lead = leads_append test b n _ kind (leads_append test b n _ (words_at before (codes "const") n) (leads_spelled test b n (Some place) Word (codes "const") [] s.constant))
 
-  pub specs_lead : (t : Specs) → are_specs t ≡ true → Leads test b n (wants_of_specs t n)
-  specs_lead = cases_Specs (λ t. are_specs t ≡ true → Leads test b n (wants_of_specs t n))
-      (λ before kind behind h. subst (λ f. Leads test b n (f n)) (sym (wants_Specs before kind behind)) (leads_append test b n _ _ (before_lead before (wants_of_spelling kind n) (kind_lead kind (sym (is_Specs before kind behind) ∙ h)))))
+  pub specs_lead : (t : Specifiers) → are_specs t ≡ true → Leads test b n (wants_of_specs t n)
+  specs_lead = cases_Specifiers (λ t. are_specs t ≡ true → Leads test b n (wants_of_specs t n))
+      (λ before kind behind h. subst (λ f. Leads test b n (f n)) (sym (wants_Specifiers before kind behind)) (leads_append test b n _ _ (before_lead before (wants_of_spelling kind n) (kind_lead kind (sym (is_Specifiers before kind behind) ∙ h)))))
 
   pub begins_type : Begins (SpecsAt n) (λ w. test w.kind w.text) b
   begins_type t ps front rest is fits =

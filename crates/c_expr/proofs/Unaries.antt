@@ -5,42 +5,43 @@ use Rattle.std.proofs.lemmas.Bool.{le-leb, leb-true}
 use Rattle.std.specs.List.{list_all}
 use Rattle.c_tree.specs.Pieces.{Piece, spelled, want_of, IsWanted, all_of}
 use Rattle.c_tree.specs.Operators.{text_of_prefix}
-use Rattle.c_tree.specs.Expressions.{wants_of_expr, wants_of_specs, wants_of_suffix}
-use Rattle.c_tree.specs.Grammar.{binds, are_specs, is_chain, operand_level, is_suffix_tree}
+use Rattle.c_tree.specs.Folds.{wants_of_expr, wants_of_specs, wants_of_suffix, binds, are_specs, operand_level, is_suffix_tree}
+use Rattle.c_tree.specs.Expressions.{is_chain}
 use Rattle.c_tree.proofs.Cases.{cases_Expr}
-use Rattle.c_tree.proofs.Wanted.{wants_Expr_Group, wants_Expr_Postfix, wants_Expr_Prefix, wants_Expr_Cast}
-use Rattle.c_tree.proofs.Grammatical.{is_Expr_Name, is_Expr_Literal, is_Expr_Call, is_Expr_Group, is_Expr_Postfix, is_Expr_Prefix, is_Expr_Cast, is_Expr_Chain, is_Expr_Conditional}
+use Rattle.c_tree.proofs.FoldsLaws.{wants_Expr_Parenthesized, wants_Expr_Postfix, wants_Expr_Unary, wants_Expr_Cast, is_Expr_Name, is_Expr_Literal, is_Expr_Call, is_Expr_Parenthesized, is_Expr_Postfix, is_Expr_Unary, is_Expr_Cast, is_Expr_BinaryChain, is_Expr_Conditional}
 use Rattle.c_tree.specs.declared.token.Place.{Place}
 use Rattle.c_tree.specs.declared.token.Token.{Token}
 use Rattle.c_tree.specs.declared.token.TokenKind.{TokenKind}
 use Rattle.c_tree.specs.declared.token.TokenKind.TheVariants.{Word, Name, Integer, Character, Mark}
 use Rattle.c_tree.specs.declared.expressions.Literal.{Literal}
 use Rattle.c_tree.specs.declared.expressions.Literal.TheVariants as literal
-use Rattle.c_tree.specs.declared.expressions.Prefix.{Prefix}
-use Rattle.c_tree.specs.declared.expressions.Prefix.TheVariants as prefix
-use Rattle.c_tree.specs.declared.expressions.Specs.{Specs}
+use Rattle.c_tree.specs.declared.expressions.UnaryOperator.{UnaryOperator}
+use Rattle.c_tree.specs.declared.expressions.UnaryOperator.TheVariants as prefix
+use Rattle.c_tree.specs.declared.expressions.Specifiers.{Specifiers}
 use Rattle.c_tree.specs.declared.expressions.Suffix.{Suffix}
 use Rattle.c_tree.specs.declared.expressions.Operand.{Operand}
 use Rattle.c_tree.specs.declared.expressions.Expr.{Expr}
 use Rattle.c_tree.specs.declared.expressions.Expr.TheVariants as expr
-use Rattle.c_expr.specs.Reading.{Reader, ◌>>=◌, choose, many}
-use Rattle.c_expr.specs.Tokens.{is_mark, is_spelled, is_kind, is_prefix, prefixes, prefix_of, found_of, found_by, found_in, is_suffix, suffix_by, goes_on, goes_by, is_from_level, operators, spelled_by, starts_type, type_by, type_goes_on, type_goes_by}
+use Rattle.c_reader.specs.Reading.{Reader, ◌>>=◌, choose, many}
+use Rattle.c_reader.specs.Tokens.{is_mark, is_spelled, is_kind, found_of, found_by, found_in, spelled_by}
+use Rattle.c_expr.specs.Tokens.{is_prefix, prefixes, prefix_of, is_suffix, suffix_by, goes_on, goes_by, is_from_level, operators, starts_type, type_by, type_goes_on, type_goes_by}
 use Rattle.c_expr.specs.Expressions.{Inner, postfixed, read_suffix, read_behind, read_primary, read_named, read_literal, read_cast, read_group, read_bracketed, read_prefixed, read_unary}
-use Rattle.c_expr.proofs.Reader.{Language, Reads}
-use Rattle.c_expr.proofs.Binding.{Both, bind_reads}
-use Rattle.c_expr.proofs.Giving.{Given, give_reads, reads_as}
-use Rattle.c_expr.proofs.Taking.{Single}
-use Rattle.c_expr.proofs.Choosing.{FirstIs, Either, this, that, choose_reads}
-use Rattle.c_expr.proofs.Repeating.{Several, many_reads, given_stops, several_given_stops, some_list}
-use Rattle.c_expr.proofs.Beginning.{Begins, begins_both, begins_single, begins_either, SomeOf, some_both, some_single, some_given}
-use Rattle.c_expr.proofs.Joining.{in_both, in_single, in_given, onto, join2, join3, join4}
-use Rattle.c_expr.proofs.Listing.{all_to, all_from, list_all_map}
-use Rattle.c_expr.proofs.Spelt.{by_text, spelled_is, spelt, spelt_at, named, literal_piece, AreUnder, found_yes, table_piece, table_reads, spelt_reads, spelt_at_reads}
+use Rattle.c_reader.proofs.Reader.{Language, Reads}
+use Rattle.c_reader.proofs.Binding.{Both, bind_reads}
+use Rattle.c_reader.proofs.Giving.{Given, give_reads, reads_as}
+use Rattle.c_reader.proofs.Taking.{Single}
+use Rattle.c_reader.proofs.Choosing.{FirstIs, Either, this, that, choose_reads}
+use Rattle.c_reader.proofs.Repeating.{Several, many_reads, given_stops, several_given_stops, some_list}
+use Rattle.c_reader.proofs.Beginning.{Begins, begins_both, begins_single, begins_either, SomeOf, some_both, some_single, some_given}
+use Rattle.c_reader.proofs.Joining.{in_both, in_single, in_given, onto, join2, join3, join4}
+use Rattle.c_reader.proofs.Listing.{all_to, all_from, list_all_map}
+use Rattle.c_reader.proofs.Spelt.{by_text, spelled_is, spelt, spelt_at, named, AreUnder, found_yes, table_piece, table_reads, spelt_reads, spelt_at_reads}
+use Rattle.c_expr.proofs.Literals.{literal_piece}
 use Rattle.c_expr.proofs.Starting.{Suits, begins_at, chain_parts, postfix_parts, conditional_parts}
 use Rattle.c_expr.proofs.Typing.{SuitsType, begins_type, word_all}
 use Rattle.c_expr.proofs.Suffixes.{At, SpecsAt, SuffixAt, Stops, StopsType, Any, InnerReads, some_at, any_from, suffix_reads, IndexL, MemberL, ArrowL}
 use Rattle.c_expr.proofs.Primaries.{StopsName, prefix_all, PlainL, NamedL, LiteralL, plain_reads, plain_to, from_name, from_literal, from_call}
-use Rattle.c_expr.proofs.Truths.{not_true, and_left, and_right, and_both, or_cases, or_left, or_right}
+use Rattle.c_reader.proofs.Truths.{not_true, and_left, and_right, and_both, or_cases, or_left, or_right}
 
 -- a suffix is no opening bracket
 no_bracket_of : (text : List ℕ) (w : Token) → spelled_by Mark (codes "(") Mark text ≡ false → spelled_by Mark text w.kind w.text ≡ true → is_mark (codes "(") w ≡ false
@@ -103,11 +104,11 @@ lower_to a b low e = cases_Expr (λ u. binds u b ≡ true → binds u a ≡ true
     (λ named. moved _ _ a b (is_Expr_Name named) (lower_le a b 13 low))
     (λ place value. moved _ _ a b (is_Expr_Literal place value) (lower_le a b 13 low))
     (λ named place arguments. moved _ _ a b (is_Expr_Call named place arguments) (low2 a b 13 _ low))
-    (λ place inner. moved _ _ a b (is_Expr_Group place inner) (low2 a b 13 _ low))
+    (λ place inner. moved _ _ a b (is_Expr_Parenthesized place inner) (low2 a b 13 _ low))
     (λ primary suffixes. moved _ _ a b (is_Expr_Postfix primary suffixes) (low4 a b 12 _ _ _ low))
-    (λ place operator operand. moved _ _ a b (is_Expr_Prefix place operator operand) (low2 a b 11 _ low))
+    (λ place operator operand. moved _ _ a b (is_Expr_Unary place operator operand) (low2 a b 11 _ low))
     (λ place specs operand. moved _ _ a b (is_Expr_Cast place specs operand) (low3 a b 11 _ _ low))
-    (λ first operands. moved _ _ a b (is_Expr_Chain first operands) (lower_chain a b low first operands))
+    (λ first operands. moved _ _ a b (is_Expr_BinaryChain first operands) (lower_chain a b low first operands))
     (λ condition place second third. moved _ _ a b (is_Expr_Conditional condition place second third) (low4 a b 0 _ _ _ low))
     e
 
@@ -223,16 +224,16 @@ module _ (most size n left : ℕ) (level : n + left ≡ most + 1) (inner : Inner
       (λ specs c qs ys rest is fits stop. begins_both _ _ type_goes_on false (bracket_stops type_goes_by refl) c qs ys rest is fits)
 
   abbrev pub GroupL : Place → Language Expr
-  GroupL place = Both (At 0 (n + 1)) (λ value. Both (Single (spelt Mark (codes ")") n)) (λ closing. Given (expr.Group place value)))
+  GroupL place = Both (At 0 (n + 1)) (λ value. Both (Single (spelt Mark (codes ")") n)) (λ closing. Given (expr.Parenthesized place value)))
 
   group_read : (Behind : List Token → Type 0) (place : Place) → Reads (GroupL place) most size Behind (read_group left inner place)
   unfolding read_group goes_by suffix_by found_by found_in spelled_by
   group_read Behind place =
       bind_reads _ _ most size (Stops 0) Behind _ _ I.expr
-      (λ value. bind_reads _ _ most size Any Behind _ _ (spelt_reads most size Any Mark (codes ")") n left level) (λ closing. give_reads (expr.Group place value) most size Behind)
-      (λ closing ps is. some_given (expr.Group place value))
+      (λ value. bind_reads _ _ most size Any Behind _ _ (spelt_reads most size Any Mark (codes ")") n left level) (λ closing. give_reads (expr.Parenthesized place value) most size Behind)
+      (λ closing ps is. some_given (expr.Parenthesized place value))
       (λ closing c qs ys rest is fits stop. tt))
-      (λ value ps is. some_both _ _ (some_single (spelt Mark (codes ")") n) tt) (λ closing. some_given (expr.Group place value)))
+      (λ value ps is. some_both _ _ (some_single (spelt Mark (codes ")") n) tt) (λ closing. some_given (expr.Parenthesized place value)))
       (λ value c qs ys rest is fits stop. begins_both _ _ (goes_on 0) false (bracket_stops (goes_by 0) refl) c qs ys rest is fits)
 
   suits_expr_type : Suits type_by false
@@ -247,7 +248,7 @@ module _ (most size n left : ℕ) (level : n + left ≡ most + 1) (inner : Inner
   BracketedL = Both (Single (spelt_at Mark (codes "(") n)) (λ place. Either (CastL place) (PostfixL (GroupL place)))
 
   some_group : (place : Place) → SomeOf (GroupL place)
-  some_group place = some_both _ _ (some_at 0 (n + 1) (omega arith)) (λ value. some_both _ _ (some_single (spelt Mark (codes ")") n) tt) (λ closing. some_given (expr.Group place value)))
+  some_group place = some_both _ _ (some_at 0 (n + 1) (omega arith)) (λ value. some_both _ _ (some_single (spelt Mark (codes ")") n) tt) (λ closing. some_given (expr.Parenthesized place value)))
 
   bracketed_read : Reads BracketedL most size (Stops 11) (read_bracketed size left inner)
   unfolding read_bracketed
@@ -266,51 +267,51 @@ module _ (most size n left : ℕ) (level : n + left ≡ most + 1) (inner : Inner
   unfolding AreUnder
   under_prefixes = (refl, (refl, (refl, (refl, (refl, (refl, tt))))))
 
-  pub found_prefix : (o : Prefix) → found_in prefixes (text_of_prefix o) ≡ Some o
+  pub found_prefix : (o : UnaryOperator) → found_in prefixes (text_of_prefix o) ≡ Some o
   unfolding found_in
   found_prefix prefix.Plus = refl
   found_prefix prefix.Minus = refl
   found_prefix prefix.Complement = refl
   found_prefix prefix.Not = refl
-  found_prefix prefix.Target = refl
+  found_prefix prefix.Indirection = refl
   found_prefix prefix.Address = refl
 
   abbrev pub PrefixedL : Language Expr
-  PrefixedL = Both (Single (table_piece most size Any Mark text_of_prefix prefixes prefix.Plus under_prefixes found_prefix n)) (λ found. Both (At 11 (n + 1)) (λ operand. Given (expr.Prefix found.0 found.1 operand)))
+  PrefixedL = Both (Single (table_piece most size Any Mark text_of_prefix prefixes prefix.Plus under_prefixes found_prefix n)) (λ found. Both (At 11 (n + 1)) (λ operand. Given (expr.Unary found.0 found.1 operand)))
 
   prefixed_read : Reads PrefixedL most size (Stops 11) (read_prefixed left inner)
   unfolding read_prefixed prefix_of
   prefixed_read =
       bind_reads _ _ most size Any (Stops 11) _ _ (table_reads most size Any Mark text_of_prefix prefixes prefix.Plus under_prefixes found_prefix n left level)
-      (λ found. bind_reads _ _ most size (Stops 11) (Stops 11) _ _ I.unary (λ operand. give_reads (expr.Prefix found.0 found.1 operand) most size (Stops 11))
-      (λ operand ps is. some_given (expr.Prefix found.0 found.1 operand))
-      (λ operand c qs ys rest is fits stop. given_stops (expr.Prefix found.0 found.1 operand) c qs ys rest (Stops 11) is fits stop))
-      (λ found ps is. some_both _ _ (some_at 11 (n + 1) (omega arith)) (λ operand. some_given (expr.Prefix found.0 found.1 operand)))
+      (λ found. bind_reads _ _ most size (Stops 11) (Stops 11) _ _ I.unary (λ operand. give_reads (expr.Unary found.0 found.1 operand) most size (Stops 11))
+      (λ operand ps is. some_given (expr.Unary found.0 found.1 operand))
+      (λ operand c qs ys rest is fits stop. given_stops (expr.Unary found.0 found.1 operand) c qs ys rest (Stops 11) is fits stop))
+      (λ found ps is. some_both _ _ (some_at 11 (n + 1) (omega arith)) (λ operand. some_given (expr.Unary found.0 found.1 operand)))
       (λ found c qs ys rest is fits stop. tt)
 
   -- ---- the same by trees
 
-  prefix_flat : (place : Place) (operator : Prefix) (operand : Expr) → (record { nesting = n; place = Some place; want = spelled Mark (text_of_prefix operator) } ∷ []) ++ (wants_of_expr operand (n + 1) ++ []) ≡ wants_of_expr (expr.Prefix place operator operand) n
-  prefix_flat place operator operand = join2 (record { nesting = n; place = Some place; want = spelled Mark (text_of_prefix operator) } ∷ []) (wants_of_expr operand (n + 1)) ∙ sym (ap (λ f. f n) (wants_Expr_Prefix place operator operand))
+  prefix_flat : (place : Place) (operator : UnaryOperator) (operand : Expr) → (record { nesting = n; place = Some place; want = spelled Mark (text_of_prefix operator) } ∷ []) ++ (wants_of_expr operand (n + 1) ++ []) ≡ wants_of_expr (expr.Unary place operator operand) n
+  prefix_flat place operator operand = join2 (record { nesting = n; place = Some place; want = spelled Mark (text_of_prefix operator) } ∷ []) (wants_of_expr operand (n + 1)) ∙ sym (ap (λ f. f n) (wants_Expr_Unary place operator operand))
 
   prefixed_to : (e : Expr) (ps : List Piece) → PrefixedL e ps → At 11 n e ps
   prefixed_to e ps b =
-      let is : e ≡ expr.Prefix b.first.0 b.first.1 b.right.first = b.right.right.tree_is in
+      let is : e ≡ expr.Unary b.first.0 b.first.1 b.right.first = b.right.right.tree_is in
       record {
-        grammar = ap (λ u. binds u 11) is ∙ ap (λ f. f 11) (is_Expr_Prefix b.first.0 b.first.1 b.right.first) ∙ b.right.left.grammar;
+        grammar = ap (λ u. binds u 11) is ∙ ap (λ f. f 11) (is_Expr_Unary b.first.0 b.first.1 b.right.first) ∙ b.right.left.grammar;
         wants = onto b.whole b.left.one (onto b.right.whole b.right.left.wants b.right.right.none) ∙ prefix_flat b.first.0 b.first.1 b.right.first ∙ ap (λ u. wants_of_expr u n) (sym is);
       }
 
-  prefixed_from : (place : Place) (operator : Prefix) (operand : Expr) (ps : List Piece) → At 11 n (expr.Prefix place operator operand) ps → PrefixedL (expr.Prefix place operator operand) ps
+  prefixed_from : (place : Place) (operator : UnaryOperator) (operand : Expr) (ps : List Piece) → At 11 n (expr.Unary place operator operand) ps → PrefixedL (expr.Unary place operator operand) ps
   prefixed_from place operator operand ps is =
-      subst (λ u. PrefixedL (expr.Prefix place operator operand) u) (prefix_flat place operator operand ∙ sym is.wants)
+      subst (λ u. PrefixedL (expr.Unary place operator operand) u) (prefix_flat place operator operand ∙ sym is.wants)
       (in_both _ _ _ _ _ (place, operator) (in_single _ (place, operator))
-      (in_both _ _ _ _ _ operand (record { grammar = sym (ap (λ f. f 11) (is_Expr_Prefix place operator operand)) ∙ is.grammar; wants = refl }) (in_given (expr.Prefix place operator operand))))
+      (in_both _ _ _ _ _ operand (record { grammar = sym (ap (λ f. f 11) (is_Expr_Unary place operator operand)) ∙ is.grammar; wants = refl }) (in_given (expr.Unary place operator operand))))
 
   abbrev opening : Place → Piece
   opening place = spelt_at Mark (codes "(") n place
 
-  cast_flat : (place : Place) (specs : Specs) (operand : Expr) → (opening place ∷ []) ++ (wants_of_specs specs (n + 1) ++ ((spelt Mark (codes ")") n tt ∷ []) ++ (wants_of_expr operand (n + 1) ++ []))) ≡ wants_of_expr (expr.Cast place specs operand) n
+  cast_flat : (place : Place) (specs : Specifiers) (operand : Expr) → (opening place ∷ []) ++ (wants_of_specs specs (n + 1) ++ ((spelt Mark (codes ")") n tt ∷ []) ++ (wants_of_expr operand (n + 1) ++ []))) ≡ wants_of_expr (expr.Cast place specs operand) n
   cast_flat place specs operand = join4 (opening place ∷ []) (wants_of_specs specs (n + 1)) (spelt Mark (codes ")") n tt ∷ []) (wants_of_expr operand (n + 1)) ∙ sym (ap (λ f. f n) (wants_Expr_Cast place specs operand))
 
   cast_to : (place : Place) (e : Expr) (qs : List Piece) → CastL place e qs → At 11 n e ((opening place ∷ []) ++ qs)
@@ -322,7 +323,7 @@ module _ (most size n left : ℕ) (level : n + left ≡ most + 1) (inner : Inner
             ∙ cast_flat place b.first b.right.right.first ∙ ap (λ u. wants_of_expr u n) (sym is);
       }
 
-  cast_from : (place : Place) (specs : Specs) (operand : Expr) (ps : List Piece) → At 11 n (expr.Cast place specs operand) ps → BracketedL (expr.Cast place specs operand) ps
+  cast_from : (place : Place) (specs : Specifiers) (operand : Expr) (ps : List Piece) → At 11 n (expr.Cast place specs operand) ps → BracketedL (expr.Cast place specs operand) ps
   cast_from place specs operand ps is =
       let both : (are_specs specs && binds operand 11) ≡ true = sym (ap (λ f. f 11) (is_Expr_Cast place specs operand)) ∙ is.grammar in
       subst (λ u. BracketedL (expr.Cast place specs operand) u) (cast_flat place specs operand ∙ sym is.wants)
@@ -331,8 +332,8 @@ module _ (most size n left : ℕ) (level : n + left ≡ most + 1) (inner : Inner
       (in_both _ _ _ _ _ tt closed
       (in_both _ _ _ _ _ operand (record { grammar = and_right (are_specs specs) (binds operand 11) both; wants = refl }) (in_given (expr.Cast place specs operand)))))))
 
-  group_flat : (place : Place) (value : Expr) → (opening place ∷ []) ++ (wants_of_expr value (n + 1) ++ ((spelt Mark (codes ")") n tt ∷ []) ++ [])) ≡ wants_of_expr (expr.Group place value) n
-  group_flat place value = join3 (opening place ∷ []) (wants_of_expr value (n + 1)) (spelt Mark (codes ")") n tt ∷ []) ∙ sym (ap (λ f. f n) (wants_Expr_Group place value))
+  group_flat : (place : Place) (value : Expr) → (opening place ∷ []) ++ (wants_of_expr value (n + 1) ++ ((spelt Mark (codes ")") n tt ∷ []) ++ [])) ≡ wants_of_expr (expr.Parenthesized place value) n
+  group_flat place value = join3 (opening place ∷ []) (wants_of_expr value (n + 1)) (spelt Mark (codes ")") n tt ∷ []) ∙ sym (ap (λ f. f n) (wants_Expr_Parenthesized place value))
 
   -- a group with its opening bracket
   record Opened (place : Place) (tree : Expr) (pieces : List Piece) : Type 0 where
@@ -343,15 +344,15 @@ module _ (most size n left : ℕ) (level : n + left ≡ most + 1) (inner : Inner
   opened_to : (place : Place) (e : Expr) (ps : List Piece) → Opened place e ps → At 13 n e ps
   opened_to place e ps o =
       let b = o.group in
-      let is : e ≡ expr.Group place b.first = b.right.right.tree_is in
+      let is : e ≡ expr.Parenthesized place b.first = b.right.right.tree_is in
       record {
-        grammar = ap (λ u. binds u 13) is ∙ ap (λ f. f 13) (is_Expr_Group place b.first) ∙ b.left.grammar;
+        grammar = ap (λ u. binds u 13) is ∙ ap (λ f. f 13) (is_Expr_Parenthesized place b.first) ∙ b.left.grammar;
         wants = o.whole ∙ ap (λ u. (opening place ∷ []) ++ u) (onto b.whole b.left.wants (onto b.right.whole b.right.left.one b.right.right.none)) ∙ group_flat place b.first ∙ ap (λ u. wants_of_expr u n) (sym is);
       }
 
-  group_in : (place : Place) (value : Expr) (ps : List Piece) → At 13 n (expr.Group place value) ps → GroupL place (expr.Group place value) (wants_of_expr value (n + 1) ++ ((spelt Mark (codes ")") n tt ∷ []) ++ []))
+  group_in : (place : Place) (value : Expr) (ps : List Piece) → At 13 n (expr.Parenthesized place value) ps → GroupL place (expr.Parenthesized place value) (wants_of_expr value (n + 1) ++ ((spelt Mark (codes ")") n tt ∷ []) ++ []))
   group_in place value ps is =
-      in_both _ _ _ _ _ value (record { grammar = sym (ap (λ f. f 13) (is_Expr_Group place value)) ∙ is.grammar; wants = refl }) (in_both _ _ _ _ _ tt closed (in_given (expr.Group place value)))
+      in_both _ _ _ _ _ value (record { grammar = sym (ap (λ f. f 13) (is_Expr_Parenthesized place value)) ∙ is.grammar; wants = refl }) (in_both _ _ _ _ _ tt closed (in_given (expr.Parenthesized place value)))
 
   opened_from : (place : Place) (e : Expr) (ps : List Piece) → PostfixL (Opened place) e ps → BracketedL e ps
   opened_from place e ps b =
@@ -385,9 +386,9 @@ module _ (most size n left : ℕ) (level : n + left ≡ most + 1) (inner : Inner
       (λ name h ps is. that (that (postfix_some (PlainL most size n left level inner I) (expr.Name name) suffixes (wants_of_expr (expr.Name name) n) ps (from_name most size n left level inner I name _ (record { grammar = h; wants = refl })) refl is)))
       (λ place value h ps is. that (that (postfix_some (PlainL most size n left level inner I) (expr.Literal place value) suffixes (wants_of_expr (expr.Literal place value) n) ps (from_literal most size n left level inner I place value _ (record { grammar = h; wants = refl })) refl is)))
       (λ name place arguments h ps is. that (that (postfix_some (PlainL most size n left level inner I) (expr.Call name place arguments) suffixes (wants_of_expr (expr.Call name place arguments) n) ps (from_call most size n left level inner I name place arguments _ (record { grammar = h; wants = refl })) refl is)))
-      (λ place value h ps is. that (this (opened_from place _ ps (postfix_some (Opened place) (expr.Group place value) suffixes _ ps (record { behind = _; group = group_in place value (wants_of_expr (expr.Group place value) n) (record { grammar = h; wants = refl }); whole = refl }) (group_flat place value) is))))
+      (λ place value h ps is. that (this (opened_from place _ ps (postfix_some (Opened place) (expr.Parenthesized place value) suffixes _ ps (record { behind = _; group = group_in place value (wants_of_expr (expr.Parenthesized place value) n) (record { grammar = h; wants = refl }); whole = refl }) (group_flat place value) is))))
       (λ primary others h ps is. absurd (omega (arith, (postfix_parts primary others 13 h).0)))
-      (λ place operator operand h ps is. absurd (not_true (sym (ap (λ f. f 13) (is_Expr_Prefix place operator operand)) ∙ h)))
+      (λ place operator operand h ps is. absurd (not_true (sym (ap (λ f. f 13) (is_Expr_Unary place operator operand)) ∙ h)))
       (λ place specs operand h ps is. absurd (not_true (sym (ap (λ f. f 13) (is_Expr_Cast place specs operand)) ∙ h)))
       (λ first operands h ps is. absurd (omega (arith, (chain_parts first operands 13 h).1.0, (chain_parts first operands 13 h).1.1)))
       (λ condition place second third h ps is. absurd (omega (arith, (conditional_parts condition place second third 13 h).0)))
@@ -398,8 +399,8 @@ module _ (most size n left : ℕ) (level : n + left ≡ most + 1) (inner : Inner
       (λ place value ps is. plain_none _ ps (from_literal most size n left level inner I place value ps (record { grammar = ap (λ f. f 13) (is_Expr_Literal place value); wants = is.wants })))
       (λ name place arguments ps is. plain_none _ ps (from_call most size n left level inner I name place arguments ps (record { grammar = ap (λ f. f 13) (is_Expr_Call name place arguments) ∙ sym (ap (λ f. f 11) (is_Expr_Call name place arguments)) ∙ is.grammar; wants = is.wants })))
       (λ place value ps is.
-      let g : At 13 n (expr.Group place value) ps = record { grammar = ap (λ f. f 13) (is_Expr_Group place value) ∙ sym (ap (λ f. f 11) (is_Expr_Group place value)) ∙ is.grammar; wants = is.wants } in
-      that (this (opened_from place (expr.Group place value) ps (postfix_none (Opened place) (expr.Group place value) ps (record { behind = _; group = group_in place value ps g; whole = is.wants ∙ sym (group_flat place value) })))))
+      let g : At 13 n (expr.Parenthesized place value) ps = record { grammar = ap (λ f. f 13) (is_Expr_Parenthesized place value) ∙ sym (ap (λ f. f 11) (is_Expr_Parenthesized place value)) ∙ is.grammar; wants = is.wants } in
+      that (this (opened_from place (expr.Parenthesized place value) ps (postfix_none (Opened place) (expr.Parenthesized place value) ps (record { behind = _; group = group_in place value ps g; whole = is.wants ∙ sym (group_flat place value) })))))
       (λ primary suffixes ps is.
       primary_from suffixes primary (postfix_parts primary suffixes 11 is.grammar).1 ps
       (record { grammar = ap (λ f. f 12) (is_Expr_Postfix primary suffixes) ∙ sym (ap (λ f. f 11) (is_Expr_Postfix primary suffixes)) ∙ is.grammar; wants = is.wants }))

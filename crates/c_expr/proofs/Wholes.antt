@@ -3,38 +3,37 @@ use Rattle.std.proofs.Common.{◌≡◌, ◌≤◌, ℕ, ◌+◌, Bool, true, fa
 use Rattle.std.proofs.Common.{Option, Some, None}
 use Rattle.std.proofs.lemmas.Bool.{le-leb, leb-false, lt-leb}
 use Rattle.c_tree.specs.Operators.{level_of}
-use Rattle.c_tree.specs.declared.expressions.Operator.{Operator}
+use Rattle.c_tree.specs.declared.expressions.BinaryOperator.{BinaryOperator}
 use Rattle.std.proofs.lemmas.List.{append-nil}
 use Rattle.c_tree.specs.Pieces.{Piece, IsWanted, Fits}
-use Rattle.c_tree.specs.Expressions.{wants_of_expr}
-use Rattle.c_tree.specs.Grammar.{binds, operand_level}
+use Rattle.c_tree.specs.Folds.{wants_of_expr, binds, operand_level}
 use Rattle.c_tree.proofs.Cases.{cases_Expr}
-use Rattle.c_tree.proofs.Wanted.{wants_Expr_Conditional}
-use Rattle.c_tree.proofs.Grammatical.{is_Expr_Name, is_Expr_Literal, is_Expr_Call, is_Expr_Group, is_Expr_Postfix, is_Expr_Prefix, is_Expr_Cast, is_Expr_Chain, is_Expr_Conditional}
+use Rattle.c_tree.proofs.FoldsLaws.{wants_Expr_Conditional, is_Expr_Name, is_Expr_Literal, is_Expr_Call, is_Expr_Parenthesized, is_Expr_Postfix, is_Expr_Unary, is_Expr_Cast, is_Expr_BinaryChain, is_Expr_Conditional}
 use Rattle.c_tree.specs.declared.token.Place.{Place}
 use Rattle.c_tree.specs.declared.token.Token.{Token}
 use Rattle.c_tree.specs.declared.token.TokenKind.TheVariants.{Mark}
 use Rattle.c_tree.specs.declared.expressions.Operand.{Operand}
 use Rattle.c_tree.specs.declared.expressions.Expr.{Expr}
 use Rattle.c_tree.specs.declared.expressions.Expr.TheVariants as expr
-use Rattle.c_expr.specs.Reading.{give}
-use Rattle.c_expr.specs.Tokens.{is_mark, is_kind, is_spelled, goes_on, goes_by, suffix_by, spelled_by, found_by, found_in, is_from_level, operators}
+use Rattle.c_reader.specs.Reading.{give}
+use Rattle.c_reader.specs.Tokens.{is_mark, is_kind, is_spelled, spelled_by, found_by, found_in}
+use Rattle.c_expr.specs.Tokens.{goes_on, goes_by, suffix_by, is_from_level, operators}
 use Rattle.c_expr.specs.Expressions.{Inner, read_choice, read_expr}
-use Rattle.c_expr.proofs.Reader.{Language, Reads}
-use Rattle.c_expr.proofs.Binding.{Both, bind_reads}
-use Rattle.c_expr.proofs.Giving.{Given, give_reads, reads_as}
-use Rattle.c_expr.proofs.Taking.{Single}
-use Rattle.c_expr.proofs.Choosing.{FirstIs, Either, this, that, choose_reads}
-use Rattle.c_expr.proofs.Repeating.{given_stops}
-use Rattle.c_expr.proofs.Beginning.{Begins, begins_both, begins_single, SomeOf, some_both, some_single, some_given}
-use Rattle.c_expr.proofs.Joining.{in_both, in_single, in_given, onto, join5}
-use Rattle.c_expr.proofs.Spelt.{by_text, spelled_yes, spelt, spelt_at, spelt_reads, spelt_at_reads}
+use Rattle.c_reader.proofs.Reader.{Language, Reads}
+use Rattle.c_reader.proofs.Binding.{Both, bind_reads}
+use Rattle.c_reader.proofs.Giving.{Given, give_reads, reads_as}
+use Rattle.c_reader.proofs.Taking.{Single}
+use Rattle.c_reader.proofs.Choosing.{FirstIs, Either, this, that, choose_reads}
+use Rattle.c_reader.proofs.Repeating.{given_stops}
+use Rattle.c_reader.proofs.Beginning.{Begins, begins_both, begins_single, SomeOf, some_both, some_single, some_given}
+use Rattle.c_reader.proofs.Joining.{in_both, in_single, in_given, onto, join5}
+use Rattle.c_reader.proofs.Spelt.{by_text, spelled_yes, spelt, spelt_at, spelt_reads, spelt_at_reads}
 use Rattle.c_expr.proofs.Starting.{operand_high, conditional_parts}
 use Rattle.c_expr.proofs.Suffixes.{At, Stops, Any, InnerReads, some_at}
 use Rattle.c_expr.proofs.Primaries.{first_from}
 use Rattle.c_expr.proofs.Unaries.{lower_to}
 use Rattle.c_expr.proofs.Chains.{levels_read}
-use Rattle.c_expr.proofs.Truths.{not_true, and_left, and_right, and_both, or_left, or_right, or_none}
+use Rattle.c_reader.proofs.Truths.{not_true, and_left, and_right, and_both, or_left, or_right, or_none}
 
 raise3 : (x : ℕ) (r t : Bool) → 1 ≤ x → (nat_le 0 x && r && t) ≡ true → (nat_le 1 x && r && t) ≡ true
 raise3 x r t fits h =
@@ -42,7 +41,7 @@ raise3 x r t fits h =
     (and_both (nat_le 1 x) r (le-leb 1 x fits) (and_right (nat_le 0 x) r (and_left (nat_le 0 x && r) t h)))
     (and_right (nat_le 0 x && r) t h)
 
-none_from : (found : Option Operator) → is_from_level 0 found ≡ false → is_from_level 1 found ≡ false
+none_from : (found : Option BinaryOperator) → is_from_level 0 found ≡ false → is_from_level 1 found ≡ false
 none_from None h = refl
 none_from (Some o) h = lt-leb 1 (level_of o) (omega (arith, leb-false 0 (level_of o) h))
 
@@ -143,19 +142,19 @@ module _ (most size n left : ℕ) (level : n + left ≡ most + 1) (inner : Inner
   raised : (e : Expr) (ps : List Piece) (g : ℕ → Bool) → binds e ≡ g → (g 0 ≡ true → g 1 ≡ true) → At 0 n e ps → ExprL e ps
   raised e ps g is step at = alone e ps (record { grammar = ap (λ f. f 1) is ∙ step (sym (ap (λ f. f 0) is) ∙ at.grammar); wants = at.wants })
 
-  chain_again : (first : Expr) (operands : List Operand) (ps : List Piece) → At 0 n (expr.Chain first operands) ps → ExprL (expr.Chain first operands) ps
-  chain_again first [] ps at = absurd (not_true (sym (ap (λ f. f 0) (is_Expr_Chain first [])) ∙ at.grammar))
+  chain_again : (first : Expr) (operands : List Operand) (ps : List Piece) → At 0 n (expr.BinaryChain first operands) ps → ExprL (expr.BinaryChain first operands) ps
+  chain_again first [] ps at = absurd (not_true (sym (ap (λ f. f 0) (is_Expr_BinaryChain first [])) ∙ at.grammar))
   chain_again first (o ∷ rest) ps at =
-      alone (expr.Chain first (o ∷ rest)) ps (record { grammar = ap (λ f. f 1) (is_Expr_Chain first (o ∷ rest)) ∙ raise3 (operand_level o).level _ _ (operand_high o) (sym (ap (λ f. f 0) (is_Expr_Chain first (o ∷ rest))) ∙ at.grammar); wants = at.wants })
+      alone (expr.BinaryChain first (o ∷ rest)) ps (record { grammar = ap (λ f. f 1) (is_Expr_BinaryChain first (o ∷ rest)) ∙ raise3 (operand_level o).level _ _ (operand_high o) (sym (ap (λ f. f 0) (is_Expr_BinaryChain first (o ∷ rest))) ∙ at.grammar); wants = at.wants })
 
   expr_from : (e : Expr) (ps : List Piece) → At 0 n e ps → ExprL e ps
   expr_from e = cases_Expr (λ u. (ps : List Piece) → At 0 n u ps → ExprL u ps)
       (λ named ps at. raised _ ps _ (is_Expr_Name named) (λ h. h) at)
       (λ place value ps at. raised _ ps _ (is_Expr_Literal place value) (λ h. h) at)
       (λ named place arguments ps at. raised _ ps _ (is_Expr_Call named place arguments) (λ h. h) at)
-      (λ place inner ps at. raised _ ps _ (is_Expr_Group place inner) (λ h. h) at)
+      (λ place inner ps at. raised _ ps _ (is_Expr_Parenthesized place inner) (λ h. h) at)
       (λ primary suffixes ps at. raised _ ps _ (is_Expr_Postfix primary suffixes) (λ h. h) at)
-      (λ place o1 operand ps at. raised _ ps _ (is_Expr_Prefix place o1 operand) (λ h. h) at)
+      (λ place o1 operand ps at. raised _ ps _ (is_Expr_Unary place o1 operand) (λ h. h) at)
       (λ place specs operand ps at. raised _ ps _ (is_Expr_Cast place specs operand) (λ h. h) at)
       (λ first operands ps at. chain_again first operands ps at)
       (λ condition place second third ps at.

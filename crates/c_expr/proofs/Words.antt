@@ -10,27 +10,26 @@ use Rattle.c_tree.specs.declared.token.Token.{Token}
 use Rattle.c_tree.specs.declared.token.TokenKind.TheVariants.{Word}
 use Rattle.c_tree.specs.declared.expressions.TypeWord.{TypeWord}
 use Rattle.c_tree.specs.declared.expressions.TypeWord.TheVariants as words
-use Rattle.c_expr.specs.Reading.{Reader, ◌>>=◌, give, take_as, choose}
-use Rattle.c_expr.specs.Tokens.{is_word, is_type_word, type_word_of, type_words, found_in, read_word_at}
+use Rattle.c_reader.specs.Reading.{Reader, ◌>>=◌, give, take_as, choose}
+use Rattle.c_reader.specs.Tokens.{is_word, found_in, read_word_at}
+use Rattle.c_expr.specs.Tokens.{is_type_word, type_word_of, type_words}
 use Rattle.c_expr.specs.Types.{word_of, agrees, read_words, read_type_words, read_constants}
-use Rattle.c_tree.specs.Expressions.{wants_of_spelling}
-use Rattle.c_tree.specs.Grammar.{is_spelling_tree}
-use Rattle.c_tree.proofs.Wanted.{wants_Spelling_Words}
-use Rattle.c_tree.proofs.Grammatical.{is_Spelling_Words}
-use Rattle.c_tree.specs.declared.expressions.Spelling.{Spelling}
-use Rattle.c_tree.specs.declared.expressions.Spelling.TheVariants as spelling
-use Rattle.c_expr.proofs.Reader.{Language, Of, Reads}
-use Rattle.c_expr.proofs.Binding.{Both, bind_reads}
-use Rattle.c_expr.proofs.Giving.{Given, give_reads, reads_as, reads_same, reads_within}
-use Rattle.c_expr.proofs.Taking.{Single, SingleIn, take_in_reads}
-use Rattle.c_expr.proofs.Choosing.{FirstIs, Either, this, that, choose_reads}
-use Rattle.c_expr.proofs.Repeating.{Several, many_reads, given_stops}
-use Rattle.c_expr.proofs.Beginning.{Begins, begins_both, begins_single}
-use Rattle.c_expr.proofs.Joining.{in_both, in_single, in_given, onto}
-use Rattle.c_expr.proofs.Spelt.{AreUnder, table_reads, found_yes, found_is, spelled_yes, spelt_at, spelt_at_reads}
+use Rattle.c_tree.specs.Folds.{wants_of_spelling, is_spelling_tree}
+use Rattle.c_tree.proofs.FoldsLaws.{wants_TypeSpecifier_Words, is_TypeSpecifier_Words}
+use Rattle.c_tree.specs.declared.expressions.TypeSpecifier.{TypeSpecifier}
+use Rattle.c_tree.specs.declared.expressions.TypeSpecifier.TheVariants as spelling
+use Rattle.c_reader.proofs.Reader.{Language, Of, Reads}
+use Rattle.c_reader.proofs.Binding.{Both, bind_reads}
+use Rattle.c_reader.proofs.Giving.{Given, give_reads, reads_as, reads_same, reads_within}
+use Rattle.c_reader.proofs.Taking.{Single, SingleIn, take_in_reads}
+use Rattle.c_reader.proofs.Choosing.{FirstIs, Either, this, that, choose_reads}
+use Rattle.c_reader.proofs.Repeating.{Several, many_reads, given_stops}
+use Rattle.c_reader.proofs.Beginning.{Begins, begins_both, begins_single}
+use Rattle.c_reader.proofs.Joining.{in_both, in_single, in_given, onto}
+use Rattle.c_reader.proofs.Spelt.{AreUnder, table_reads, found_yes, found_is, spelled_yes, spelt_at, spelt_at_reads}
 use Rattle.c_expr.proofs.Starting.{begins_cons}
 use Rattle.c_expr.proofs.Suffixes.{Any}
-use Rattle.c_expr.proofs.Truths.{not_true, and_left, and_right, and_both, or_cases}
+use Rattle.c_reader.proofs.Truths.{not_true, and_left, and_right, and_both, or_cases}
 
 and_false : (a : Bool) → (a && false) ≡ false
 and_false true = refl
@@ -442,7 +441,7 @@ module _ (most size n left : ℕ) (level : n + left ≡ most + 1) where
   abbrev pub first_piece : Place × TypeWord → Piece
   first_piece found = record { nesting = n; place = Some found.0; want = spelled Word (text_of_word found.1) }
 
-  abbrev TypeWordsL : Language Spelling
+  abbrev TypeWordsL : Language TypeSpecifier
   TypeWordsL = Both (Single first_piece) (λ first. Both (MoreWords (with_word first.1 no_words)) (λ rest. Given (spelling.Words first.0 (first.1 ∷ rest))))
 
   type_words_read : Reads TypeWordsL most size StopsWords (read_type_words size left)
@@ -456,30 +455,30 @@ module _ (most size n left : ℕ) (level : n + left ≡ most + 1) where
       (λ first v qs ys more is fits stop. tt)
 
   -- the spellings of words
-  abbrev pub WordsAt : Language Spelling
+  abbrev pub WordsAt : Language TypeSpecifier
   WordsAt = TypeWordsL
 
   words_flat : (place : Place) (w : TypeWord) (ws : List TypeWord) → (first_piece (place, w) ∷ []) ++ (flat_map (λ u. word_piece n u ∷ []) ws ++ []) ≡ wants_of_spelling (spelling.Words place (w ∷ ws)) n
-  words_flat place w ws = ap (λ u. first_piece (place, w) ∷ u) (append-nil (flat_map (λ u. word_piece n u ∷ []) ws)) ∙ sym (ap (λ f. f n) (wants_Spelling_Words place (w ∷ ws)))
+  words_flat place w ws = ap (λ u. first_piece (place, w) ∷ u) (append-nil (flat_map (λ u. word_piece n u ∷ []) ws)) ∙ sym (ap (λ f. f n) (wants_TypeSpecifier_Words place (w ∷ ws)))
 
-  pub words_to : (t : Spelling) (ps : List Piece) → WordsAt t ps → Of is_spelling_tree (λ u. wants_of_spelling u n) t ps
+  pub words_to : (t : TypeSpecifier) (ps : List Piece) → WordsAt t ps → Of is_spelling_tree (λ u. wants_of_spelling u n) t ps
   words_to t ps b =
       let is : t ≡ spelling.Words b.first.0 (b.first.1 ∷ b.right.first) = b.right.right.tree_is in
       record {
-        grammar = ap is_spelling_tree is ∙ is_Spelling_Words b.first.0 (b.first.1 ∷ b.right.first) ∙ spelling_whole b.first.1 b.right.first b.right.left.grammar;
+        grammar = ap is_spelling_tree is ∙ is_TypeSpecifier_Words b.first.0 (b.first.1 ∷ b.right.first) ∙ spelling_whole b.first.1 b.right.first b.right.left.grammar;
         wants = onto b.whole b.left.one (onto b.right.whole b.right.left.wants b.right.right.none) ∙ words_flat b.first.0 b.first.1 b.right.first ∙ ap (λ u. wants_of_spelling u n) (sym is);
       }
 
   no_spelling : (place : Place) → is_spelling_tree (spelling.Words place []) ≡ true → ⊥
   unfolding counts_from
-  no_spelling place h = not_true (sym (is_Spelling_Words place []) ∙ h)
+  no_spelling place h = not_true (sym (is_TypeSpecifier_Words place []) ∙ h)
 
   pub words_from : (place : Place) (ws : List TypeWord) (ps : List Piece) → Of is_spelling_tree (λ u. wants_of_spelling u n) (spelling.Words place ws) ps → WordsAt (spelling.Words place ws) ps
   words_from place [] ps is = absurd (no_spelling place is.grammar)
   words_from place (w ∷ ws) ps is =
       subst (λ u. WordsAt (spelling.Words place (w ∷ ws)) u) (words_flat place w ws ∙ sym is.wants)
       (in_both _ _ _ _ _ (place, w) (in_single first_piece (place, w))
-      (in_both _ _ _ _ _ ws (record { grammar = spelling_first w ws (sym (is_Spelling_Words place (w ∷ ws)) ∙ is.grammar); wants = refl }) (in_given (spelling.Words place (w ∷ ws)))))
+      (in_both _ _ _ _ _ ws (record { grammar = spelling_first w ws (sym (is_TypeSpecifier_Words place (w ∷ ws)) ∙ is.grammar); wants = refl }) (in_given (spelling.Words place (w ∷ ws)))))
 
   pub type_words_reads : Reads WordsAt most size StopsWords (read_type_words size left)
   type_words_reads = type_words_read

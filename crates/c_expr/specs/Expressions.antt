@@ -3,36 +3,31 @@
 use Rattle.std.specs.Prelude.{ℕ, zero, suc, ◌-◌, List, [], ◌∷◌, codes}
 use Rattle.c_tree.specs.declared.token.Place.{Place}
 use Rattle.c_tree.specs.declared.token.TokenKind.TheVariants.{Name}
-use Rattle.c_tree.specs.declared.expressions.Named.{Named}
+use Rattle.c_tree.specs.declared.expressions.Identifier.{Identifier}
 use Rattle.c_tree.specs.declared.expressions.Expr.{Expr}
 use Rattle.c_tree.specs.declared.expressions.Expr.TheVariants as expr
 use Rattle.c_tree.specs.declared.expressions.Expr.TheViews.{roll-Operand}
 use Rattle.c_tree.specs.declared.expressions.Operand.{Operand}
-use Rattle.c_tree.specs.declared.expressions.Specs.{Specs}
+use Rattle.c_tree.specs.declared.expressions.Specifiers.{Specifiers}
 use Rattle.c_tree.specs.declared.expressions.Suffix.{Suffix}
 use Rattle.c_tree.specs.declared.expressions.Suffix.TheVariants as suffix
-use Rattle.c_expr.specs.Reading.{Reader, ◌>>=◌, give, take_as, choose, many}
-use Rattle.c_expr.specs.Tokens.{is_mark, is_kind, is_prefix, prefix_at, is_literal, literal_at, is_operator, operator_at, is_suffix, starts_type, read_mark, read_mark_at, read_name}
+use Rattle.c_reader.specs.Reading.{Reader, ◌>>=◌, give, take_as, choose, many}
+use Rattle.c_reader.specs.Lists.{separated_by}
+use Rattle.c_reader.specs.Tokens.{is_mark, is_kind, read_mark, read_mark_at, read_name}
+use Rattle.c_expr.specs.Tokens.{is_prefix, prefix_at, is_literal, literal_at, is_operator, operator_at, is_suffix, starts_type}
 
 -- readers of what is nested, where so many levels are left
 pub record Inner : Type 0 where
   pub left : ℕ
   pub unary : Reader Expr
   pub expr : Reader Expr
-  pub specs : Reader Specs
-
--- parts with a mark between each two of them, one at least
-unfoldable pub separated_by : {A : Type 0} → ℕ → List ℕ → ℕ → Reader A → Reader (List A)
-separated_by size text left read = do
-  first ← read
-  rest ← many size (is_mark text) (read_mark text left >>= λ separator. read)
-  give (first ∷ rest)
+  pub specs : Reader Specifiers
 
 -- arguments behind an opening bracket
 unfoldable pub read_arguments : ℕ → Inner → Reader (List Expr)
 read_arguments size inner = choose (is_mark (codes ")")) (give []) (separated_by size (codes ",") inner.left inner.expr)
 
-unfoldable pub read_call : ℕ → ℕ → Inner → Named → Reader Expr
+unfoldable pub read_call : ℕ → ℕ → Inner → Identifier → Reader Expr
 read_call size left inner name = do
   place ← read_mark_at (codes "(") left
   arguments ← read_arguments size inner
@@ -96,7 +91,7 @@ unfoldable pub read_group : ℕ → Inner → Place → Reader Expr
 read_group left inner place = do
   value ← inner.expr
   closing ← read_mark (codes ")") left
-  give (expr.Group place value)
+  give (expr.Parenthesized place value)
 
 unfoldable pub read_bracketed : ℕ → ℕ → Inner → Reader Expr
 read_bracketed size left inner = do
@@ -107,7 +102,7 @@ unfoldable pub read_prefixed : ℕ → Inner → Reader Expr
 read_prefixed left inner = do
   found ← take_as is_prefix prefix_at left
   operand ← inner.unary
-  give (expr.Prefix found.0 found.1 operand)
+  give (expr.Unary found.0 found.1 operand)
 
 unfoldable pub read_unary : ℕ → ℕ → Inner → Reader Expr
 read_unary size left inner =
@@ -122,7 +117,7 @@ read_operand level left read = do
 
 abbrev pub chained : Expr → List Operand → Expr
 chained first [] = first
-chained first (second ∷ rest) = expr.Chain first (second ∷ rest)
+chained first (second ∷ rest) = expr.BinaryChain first (second ∷ rest)
 
 -- the chains of so many levels above the unary expressions
 unfoldable pub read_chain : ℕ → ℕ → ℕ → Inner → Reader Expr

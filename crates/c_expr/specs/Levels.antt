@@ -2,11 +2,12 @@
 use Rattle.std.specs.Prelude.{ℕ, zero, suc, []}
 use Rattle.c_tree.specs.declared.expressions.Expr.{Expr}
 use Rattle.c_tree.specs.declared.expressions.Expr.TheVariants as expr
-use Rattle.c_tree.specs.declared.expressions.Expr.TheViews.{roll-Specs}
-use Rattle.c_tree.specs.declared.expressions.Specs.{Specs}
-use Rattle.c_tree.specs.declared.expressions.Spelling.TheVariants as spelling
-use Rattle.c_expr.specs.Reading.{Reader, take_as}
-use Rattle.c_expr.specs.Tokens.{starts_expr, starts_type, named_of}
+use Rattle.c_tree.specs.declared.expressions.Expr.TheViews.{roll-Specifiers}
+use Rattle.c_tree.specs.declared.expressions.Specifiers.{Specifiers}
+use Rattle.c_tree.specs.declared.expressions.TypeSpecifier.TheVariants as spelling
+use Rattle.c_reader.specs.Reading.{Reader, take_as}
+use Rattle.c_expr.specs.Tokens.{starts_expr, starts_type}
+use Rattle.c_reader.specs.Tokens.{named_of}
 use Rattle.c_expr.specs.Expressions.{Inner, read_unary, read_expr}
 use Rattle.c_expr.specs.Types.{read_specs}
 
@@ -14,8 +15,8 @@ use Rattle.c_expr.specs.Types.{read_specs}
 abbrev pub no_expr : Reader Expr
 no_expr = take_as starts_expr (λ token. expr.Name (named_of token)) 0
 
-abbrev pub no_specs : Reader Specs
-no_specs = take_as starts_type (λ token. roll-Specs (record { before = []; kind = spelling.TypeName (named_of token); after = [] })) 0
+abbrev pub no_specs : Reader Specifiers
+no_specs = take_as starts_type (λ token. roll-Specifiers (record { before = []; kind = spelling.TypeName (named_of token); after = [] })) 0
 
 -- the readers where so many levels are left, in lists of at most so many tokens
 unfoldable pub readers_at : ℕ → ℕ → Inner

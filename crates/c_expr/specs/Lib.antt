@@ -1,15 +1,8 @@
-pub mod Ahead
-pub mod Alone
-pub mod Closures
 pub mod Counting
 pub mod CountsCode
 pub mod Expressions
-pub mod Faults
 pub mod Levels
 pub mod Nested
-pub mod Outcome
-pub mod Reading
 pub mod Runs
-pub mod Samples
 pub mod Tokens
 pub mod Types

@@ -3,33 +3,28 @@ use Rattle.std.specs.Prelude.{ℕ, zero, suc, Bool, true, false, ◌&&◌, ◌||
 use Rattle.c_tree.specs.TypeWords.{Counts, no_words, with_word, agree}
 use Rattle.c_tree.specs.declared.token.Place.{Place}
 use Rattle.c_tree.specs.declared.token.Token.{Token}
+use Rattle.c_tree.specs.declared.expressions.TrailingComma.{TrailingComma}
+use Rattle.c_tree.specs.declared.expressions.TrailingComma.TheVariants.{Absent, Present}
 use Rattle.c_tree.specs.declared.token.TokenKind.TheVariants.{Name, TypeName}
-use Rattle.c_tree.specs.declared.expressions.Named.{Named}
+use Rattle.c_tree.specs.declared.expressions.Identifier.{Identifier}
 use Rattle.c_tree.specs.declared.expressions.TypeWord.{TypeWord}
 use Rattle.c_tree.specs.declared.expressions.TypeWord.TheVariants as words
 use Rattle.c_tree.specs.declared.expressions.Expr.{Expr}
-use Rattle.c_tree.specs.declared.expressions.Expr.TheViews.{roll-Specs, roll-Member, roll-Dimensioned, roll-Dimension, roll-Enumerator}
-use Rattle.c_tree.specs.declared.expressions.Specs.{Specs}
-use Rattle.c_tree.specs.declared.expressions.Spelling.{Spelling}
-use Rattle.c_tree.specs.declared.expressions.Spelling.TheVariants as spelling
-use Rattle.c_tree.specs.declared.expressions.Tag.{Tag}
-use Rattle.c_tree.specs.declared.expressions.Tag.TheVariants as tag
-use Rattle.c_tree.specs.declared.expressions.Member.{Member}
-use Rattle.c_tree.specs.declared.expressions.Dimensioned.{Dimensioned}
+use Rattle.c_tree.specs.declared.expressions.Expr.TheViews.{roll-Specifiers, roll-StructDeclaration, roll-StructDeclarator, roll-Dimension, roll-Enumerator}
+use Rattle.c_tree.specs.declared.expressions.Specifiers.{Specifiers}
+use Rattle.c_tree.specs.declared.expressions.TypeSpecifier.{TypeSpecifier}
+use Rattle.c_tree.specs.declared.expressions.TypeSpecifier.TheVariants as spelling
+use Rattle.c_tree.specs.declared.expressions.TagSpecifier.{TagSpecifier}
+use Rattle.c_tree.specs.declared.expressions.TagSpecifier.TheVariants as tag
+use Rattle.c_tree.specs.declared.expressions.StructDeclaration.{StructDeclaration}
+use Rattle.c_tree.specs.declared.expressions.StructDeclarator.{StructDeclarator}
 use Rattle.c_tree.specs.declared.expressions.Dimension.{Dimension}
 use Rattle.c_tree.specs.declared.expressions.Enumerator.{Enumerator}
-use Rattle.c_expr.specs.Reading.{Reader, ◌>>=◌, give, take_as, choose, many}
-use Rattle.c_expr.specs.Tokens.{is_mark, is_word, is_kind, is_type_word, type_word_of, starts_type, read_mark, read_mark_at, read_word_at, read_name, read_type_name}
-use Rattle.c_expr.specs.Expressions.{Inner, separated_by}
-
--- what follows the first part of a list, which may end with a mark: each mark and the part behind it, as long as one stands there
-unfoldable pub read_more : {A : Type 0} → ℕ → List ℕ → (Token → Bool) → ℕ → Reader A → Reader (List A × Bool)
-read_more zero text starts left read = give ([], false)
-read_more (suc size) text starts left read =
-    choose (is_mark text)
-    (read_mark text left >>= λ separator.
-    choose starts (read >>= λ a. read_more size text starts left read >>= λ rest. give (a ∷ rest.0, rest.1)) (give ([], true)))
-    (give ([], false))
+use Rattle.c_reader.specs.Reading.{Reader, ◌>>=◌, give, take_as, choose, many}
+use Rattle.c_reader.specs.Tokens.{is_mark, is_word, is_kind, read_mark, read_mark_at, read_word_at, read_name, read_type_name}
+use Rattle.c_expr.specs.Tokens.{is_type_word, type_word_of, starts_type}
+use Rattle.c_expr.specs.Expressions.{Inner}
+use Rattle.c_reader.specs.Lists.{separated_by, read_more}
 
 -- ---- words
 
@@ -48,7 +43,7 @@ read_words zero left counts = give []
 read_words (suc size) left counts =
     choose (agrees counts) (take_as (agrees counts) word_of left >>= λ w. read_words size left (with_word w counts) >>= λ rest. give (w ∷ rest)) (give [])
 
-unfoldable pub read_type_words : ℕ → ℕ → Reader Spelling
+unfoldable pub read_type_words : ℕ → ℕ → Reader TypeSpecifier
 read_type_words size left = do
   first ← take_as is_type_word word_at left
   rest ← read_words size left (with_word first.1 no_words)
@@ -69,21 +64,21 @@ read_dimension left read = do
 unfoldable pub read_dimensions : ℕ → ℕ → Reader Expr → Reader (List Dimension)
 read_dimensions size left read = many size (is_mark (codes "[")) (read_dimension left read)
 
-unfoldable pub read_dimensioned : ℕ → ℕ → Reader Expr → Reader Dimensioned
+unfoldable pub read_dimensioned : ℕ → ℕ → Reader Expr → Reader StructDeclarator
 read_dimensioned size left read = do
   name ← read_name left
   dimensions ← read_dimensions size left read
-  give (roll-Dimensioned (record { name = name; dimensions = dimensions }))
+  give (roll-StructDeclarator (record { name = name; dimensions = dimensions }))
 
-unfoldable pub read_members_of : ℕ → Inner → Reader Member
+unfoldable pub read_members_of : ℕ → Inner → Reader StructDeclaration
 read_members_of size inner = do
   specs ← inner.specs
   names ← separated_by size (codes ",") inner.left (read_dimensioned size inner.left inner.expr)
   closing ← read_mark (codes ";") inner.left
-  give (roll-Member (record { specs = specs; names = names }))
+  give (roll-StructDeclaration (record { specs = specs; names = names }))
 
 -- the body of a struct, which is nested in it
-unfoldable pub read_struct_body : ℕ → Inner → Reader (List Member)
+unfoldable pub read_struct_body : ℕ → Inner → Reader (List StructDeclaration)
 read_struct_body size inner = do
   opening ← read_mark (codes "{") inner.left
   first ← read_members_of size inner
@@ -91,11 +86,11 @@ read_struct_body size inner = do
   closing ← read_mark (codes "}") inner.left
   give (first ∷ rest)
 
-unfoldable pub read_struct_behind : ℕ → Inner → Place → Named → Reader Tag
+unfoldable pub read_struct_behind : ℕ → Inner → Place → Identifier → Reader TagSpecifier
 read_struct_behind size inner place name =
     choose (is_mark (codes "{")) (read_struct_body size inner >>= λ members. give (tag.Struct place (Some name) (Some members))) (give (tag.Struct place (Some name) None))
 
-unfoldable pub read_struct : ℕ → ℕ → Inner → Reader Tag
+unfoldable pub read_struct : ℕ → ℕ → Inner → Reader TagSpecifier
 read_struct size left inner = do
   place ← read_word_at (codes "struct") left
   choose (is_kind Name) (read_name left >>= read_struct_behind size inner place) (read_struct_body size inner >>= λ members. give (tag.Struct place None (Some members)))
@@ -111,7 +106,7 @@ read_enumerator left read = do
   value ← read_value left read
   give (roll-Enumerator (record { name = name; value = value }))
 
-unfoldable pub read_enum_body : ℕ → ℕ → Reader Expr → Reader (List Enumerator × Bool)
+unfoldable pub read_enum_body : ℕ → ℕ → Reader Expr → Reader (List Enumerator × TrailingComma)
 read_enum_body size left read = do
   opening ← read_mark (codes "{") left
   first ← read_enumerator left read
@@ -119,16 +114,16 @@ read_enum_body size left read = do
   closing ← read_mark (codes "}") left
   give (first ∷ rest.0, rest.1)
 
-unfoldable pub read_enum_behind : ℕ → ℕ → Reader Expr → Place → Named → Reader Tag
+unfoldable pub read_enum_behind : ℕ → ℕ → Reader Expr → Place → Identifier → Reader TagSpecifier
 read_enum_behind size left read place name =
-    choose (is_mark (codes "{")) (read_enum_body size left read >>= λ body. give (tag.Enum place (Some name) (Some body.0) body.1)) (give (tag.Enum place (Some name) None false))
+    choose (is_mark (codes "{")) (read_enum_body size left read >>= λ body. give (tag.Enum place (Some name) (Some body.0) body.1)) (give (tag.Enum place (Some name) None Absent))
 
-unfoldable pub read_enum : ℕ → ℕ → Reader Expr → Reader Tag
+unfoldable pub read_enum : ℕ → ℕ → Reader Expr → Reader TagSpecifier
 read_enum size left read = do
   place ← read_word_at (codes "enum") left
   choose (is_kind Name) (read_name left >>= read_enum_behind size left read place) (read_enum_body size left read >>= λ body. give (tag.Enum place None (Some body.0) body.1))
 
-unfoldable pub read_tag : ℕ → ℕ → Inner → Reader Expr → Reader Tag
+unfoldable pub read_tag : ℕ → ℕ → Inner → Reader Expr → Reader TagSpecifier
 read_tag size left inner read = choose (is_word (codes "struct")) (read_struct size left inner) (read_enum size left read)
 
 -- ---- the whole spelling
@@ -136,17 +131,17 @@ read_tag size left inner read = choose (is_word (codes "struct")) (read_struct s
 abbrev pub is_tag_word : Token → Bool
 is_tag_word token = is_word (codes "struct") token || is_word (codes "enum") token
 
-unfoldable pub read_spelling : ℕ → ℕ → Inner → Reader Expr → Reader Spelling
+unfoldable pub read_spelling : ℕ → ℕ → Inner → Reader Expr → Reader TypeSpecifier
 read_spelling size left inner read =
     choose is_type_word (read_type_words size left)
-    (choose (is_kind TypeName) (read_type_name left >>= λ name. give (spelling.TypeName name)) (read_tag size left inner read >>= λ t. give (spelling.Tag t)))
+    (choose (is_kind TypeName) (read_type_name left >>= λ name. give (spelling.TypeName name)) (read_tag size left inner read >>= λ t. give (spelling.TagSpecifier t)))
 
 unfoldable pub read_constants : ℕ → ℕ → Reader (List Place)
 read_constants size left = many size (is_word (codes "const")) (read_word_at (codes "const") left)
 
-unfoldable pub read_specs : ℕ → ℕ → Inner → Reader Expr → Reader Specs
+unfoldable pub read_specs : ℕ → ℕ → Inner → Reader Expr → Reader Specifiers
 read_specs size left inner read = do
   before ← read_constants size left
   kind ← read_spelling size left inner read
   after ← read_constants size left
-  give (roll-Specs (record { before = before; kind = kind; after = after }))
+  give (roll-Specifiers (record { before = before; kind = kind; after = after }))

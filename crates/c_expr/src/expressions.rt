@@ -4,16 +4,17 @@ ghost use Rattle.std.specs.Prelude.{◌≡◌, ◌<◌, ◌≤◌, ◌-◌, code
 ghost use Rattle.c_expr.specs.Expressions as spec;
 ghost use Rattle.c_expr.specs.Levels.{readers_at};
 ghost use Rattle.c_expr.specs.Nested.{AreNested};
-ghost use Rattle.c_expr.specs.Outcome.{Gives};
-ghost use Rattle.c_expr.specs.Reading as reading;
+ghost use Rattle.c_reader.specs.Outcome.{Gives};
+ghost use Rattle.c_reader.specs.Lists as lists;
+ghost use Rattle.c_reader.specs.Reading as reading;
+ghost use Rattle.c_reader.specs.Tokens.{is_kind as is_kind_of};
 ghost use Rattle.c_expr.specs.Tokens as tokens;
 
-use crate::cursor::Cursor;
 use crate::grammar::Grammar;
-use crate::lists::{many, separated_by};
 use crate::tables::is_suffix;
-use crate::unread::Unread;
-use c_tree::{Expr, Named, Operand, Place, Specs, Suffix, TokenKind};
+use crate::tokens::{literal_at, operator_at, prefix_at, sees_operator, sees_prefix, sees_type};
+use c_reader::{Cursor, Unread, many, separated_by};
+use c_tree::{Expr, Identifier, Operand, Place, Specifiers, Suffix, TokenKind};
 use hy_bits::Memory;
 use sqlite_items::{Boxed, Items};
 use std::alloc::Global;
@@ -35,18 +36,18 @@ fn chained(alloc: Global, first: Expr, rest: Items<Operand>) -> Result<Expr, Mem
     if rest.is_empty() {
         return Ok(first);
     }
-    Ok(Expr::Chain(Boxed::new(alloc, first)?, rest))
+    Ok(Expr::BinaryChain(Boxed::new(alloc, first)?, rest))
 }
 
 impl<
     U: Fn(Global, &mut Cursor<'_>, usize, u32) -> Result<Expr, Unread>,
     E: Fn(Global, &mut Cursor<'_>, usize, u32) -> Result<Expr, Unread>,
-    S: Fn(Global, &mut Cursor<'_>, usize, u32) -> Result<Specs, Unread>,
+    S: Fn(Global, &mut Cursor<'_>, usize, u32) -> Result<Specifiers, Unread>,
 > Grammar<U, E, S> {
     /// `expr ("," expr)*`
     fn some_arguments(&self, cursor: &mut Cursor<'_>) -> Result<Items<Expr>, Unread>
         requires { AreNested self.now.size self.now.left (U.pre self.now.unary) (U.post self.now.unary) (E.pre self.now.expr) (E.post self.now.expr) (S.pre self.now.specs) (S.post self.now.specs) }
-        ensures { Gives (spec.separated_by self.now.size (codes ",") (self.now.left - 1) (readers_at self.now.size (self.now.left - 1)).expr cursor.old) result cursor.new }
+        ensures { Gives (lists.separated_by self.now.size (codes ",") (self.now.left - 1) (readers_at self.now.size (self.now.left - 1)).expr cursor.old) result cursor.new }
     {
         separated_by(
             self.alloc,
@@ -59,7 +60,7 @@ impl<
     }
 
     /// The arguments of a call: `[expr ("," expr)*]`
-    #[tactic(auto, using(crate::proofs::Gathering::choose_sees, crate::proofs::Depths::left_of), unfolding(crate::specs::Expressions::read_arguments))]
+    #[tactic(auto, using(c_reader::proofs::Gathering::choose_sees, crate::proofs::Depths::left_of), unfolding(crate::specs::Expressions::read_arguments))]
     fn arguments(&self, cursor: &mut Cursor<'_>) -> Result<Items<Expr>, Unread>
         requires { AreNested self.now.size self.now.left (U.pre self.now.unary) (U.post self.now.unary) (E.pre self.now.expr) (E.post self.now.expr) (S.pre self.now.specs) (S.post self.now.specs) }
         ensures { Gives (spec.read_arguments self.now.size (readers_at self.now.size (self.now.left - 1)) cursor.old) result cursor.new }
@@ -73,18 +74,22 @@ impl<
 
     /// `NAME "(" arguments ")"`, behind the name.
     #[tactic(auto, unfolding(crate::specs::Expressions::read_call))]
-    fn call(&self, cursor: &mut Cursor<'_>, name: Named) -> Result<Expr, Unread>
+    fn call(&self, cursor: &mut Cursor<'_>, name: Identifier) -> Result<Expr, Unread>
         requires { AreNested self.now.size self.now.left (U.pre self.now.unary) (U.post self.now.unary) (E.pre self.now.expr) (E.post self.now.expr) (S.pre self.now.specs) (S.post self.now.specs) }
         ensures { Gives (spec.read_call self.now.size self.now.left (readers_at self.now.size (self.now.left - 1)) name cursor.old) result cursor.new }
     {
         let place = cursor.mark_at("(", self.left)?;
         let arguments = self.arguments(cursor)?;
         cursor.mark(")", self.left)?;
-        Ok(Expr::Call(name, place, arguments))
+        Ok(Expr::Call {
+            function: name,
+            bracket: place,
+            arguments,
+        })
     }
 
     /// A name or a call.
-    #[tactic(auto, using(crate::proofs::Gathering::choose_sees), unfolding(crate::specs::Expressions::read_named))]
+    #[tactic(auto, using(c_reader::proofs::Gathering::choose_sees), unfolding(crate::specs::Expressions::read_named))]
     fn named(&self, cursor: &mut Cursor<'_>) -> Result<Expr, Unread>
         requires { AreNested self.now.size self.now.left (U.pre self.now.unary) (U.post self.now.unary) (E.pre self.now.expr) (E.post self.now.expr) (S.pre self.now.specs) (S.post self.now.specs) }
         ensures { Gives (spec.read_named self.now.size self.now.left (readers_at self.now.size (self.now.left - 1)) cursor.old) result cursor.new }
@@ -102,7 +107,7 @@ impl<
     fn literal(&self, cursor: &mut Cursor<'_>) -> Result<Expr, Unread>
         ensures { Gives (spec.read_literal self.now.left cursor.old) result cursor.new }
     {
-        let (place, value) = cursor.literal_at(self.left)?;
+        let (place, value) = literal_at(cursor, self.left)?;
         Ok(Expr::Literal(place, value))
     }
 
@@ -139,7 +144,7 @@ impl<
     }
 
     /// An index or a member.
-    #[tactic(auto, using(crate::proofs::Gathering::choose_sees), unfolding(crate::specs::Expressions::read_suffix))]
+    #[tactic(auto, using(c_reader::proofs::Gathering::choose_sees), unfolding(crate::specs::Expressions::read_suffix))]
     fn suffix(&self, cursor: &mut Cursor<'_>) -> Result<Suffix, Unread>
         requires { AreNested self.now.size self.now.left (U.pre self.now.unary) (U.post self.now.unary) (E.pre self.now.expr) (E.post self.now.expr) (S.pre self.now.specs) (S.post self.now.specs) }
         ensures { Gives (spec.read_suffix self.now.left (readers_at self.now.size (self.now.left - 1)) cursor.old) result cursor.new }
@@ -178,10 +183,10 @@ impl<
     }
 
     /// A name, a call or a literal.
-    #[tactic(auto, using(crate::proofs::Gathering::choose_sees))]
+    #[tactic(auto, using(c_reader::proofs::Gathering::choose_sees))]
     fn name_or_literal(&self, cursor: &mut Cursor<'_>) -> Result<Expr, Unread>
         requires { AreNested self.now.size self.now.left (U.pre self.now.unary) (U.post self.now.unary) (E.pre self.now.expr) (E.post self.now.expr) (S.pre self.now.specs) (S.post self.now.specs) }
-        ensures { Gives (reading.choose (tokens.is_kind TokenKind.Name) (spec.read_named self.now.size self.now.left (readers_at self.now.size (self.now.left - 1))) (spec.read_literal self.now.left) cursor.old) result cursor.new }
+        ensures { Gives (reading.choose (is_kind_of TokenKind.Name) (spec.read_named self.now.size self.now.left (readers_at self.now.size (self.now.left - 1))) (spec.read_literal self.now.left) cursor.old) result cursor.new }
     {
         if cursor.sees_kind(TokenKind::Name) {
             self.named(cursor)
@@ -209,11 +214,11 @@ impl<
         let specs = self.nested_specs(cursor)?;
         cursor.mark(")", self.left)?;
         let operand = self.nested_unary(cursor)?;
-        Ok(Expr::Cast(
+        Ok(Expr::Cast {
             place,
-            Boxed::new(self.alloc, specs)?,
-            Boxed::new(self.alloc, operand)?,
-        ))
+            specs: Boxed::new(self.alloc, specs)?,
+            operand: Boxed::new(self.alloc, operand)?,
+        })
     }
 
     /// `"(" expr ")"`, behind the opening bracket.
@@ -224,17 +229,17 @@ impl<
     {
         let value = self.nested_expr(cursor)?;
         cursor.mark(")", self.left)?;
-        Ok(Expr::Group(place, Boxed::new(self.alloc, value)?))
+        Ok(Expr::Parenthesized(place, Boxed::new(self.alloc, value)?))
     }
 
     /// A cast, or an expression in brackets and what stands behind it.
-    #[tactic(auto, using(crate::proofs::Gathering::choose_sees), unfolding(crate::specs::Expressions::read_bracketed))]
+    #[tactic(auto, using(c_reader::proofs::Gathering::choose_sees), unfolding(crate::specs::Expressions::read_bracketed))]
     fn bracketed(&self, cursor: &mut Cursor<'_>) -> Result<Expr, Unread>
         requires { AreNested self.now.size self.now.left (U.pre self.now.unary) (U.post self.now.unary) (E.pre self.now.expr) (E.post self.now.expr) (S.pre self.now.specs) (S.post self.now.specs) }
         ensures { Gives (spec.read_bracketed self.now.size self.now.left (readers_at self.now.size (self.now.left - 1)) cursor.old) result cursor.new }
     {
         let place = cursor.mark_at("(", self.left)?;
-        if cursor.sees_type() {
+        if sees_type(cursor) {
             return self.cast(cursor, place);
         }
         let group = self.group(cursor, place)?;
@@ -247,18 +252,22 @@ impl<
         requires { AreNested self.now.size self.now.left (U.pre self.now.unary) (U.post self.now.unary) (E.pre self.now.expr) (E.post self.now.expr) (S.pre self.now.specs) (S.post self.now.specs) }
         ensures { Gives (spec.read_prefixed self.now.left (readers_at self.now.size (self.now.left - 1)) cursor.old) result cursor.new }
     {
-        let (place, operator) = cursor.prefix_at(self.left)?;
+        let (place, operator) = prefix_at(cursor, self.left)?;
         let operand = self.nested_unary(cursor)?;
-        Ok(Expr::Prefix(place, operator, Boxed::new(self.alloc, operand)?))
+        Ok(Expr::Unary {
+            place,
+            operator,
+            operand: Boxed::new(self.alloc, operand)?,
+        })
     }
 
     /// A unary expression.
-    #[tactic(auto, using(crate::proofs::Gathering::choose_sees), unfolding(crate::specs::Expressions::read_unary))]
+    #[tactic(auto, using(c_reader::proofs::Gathering::choose_sees), unfolding(crate::specs::Expressions::read_unary))]
     pub fn unary(&self, cursor: &mut Cursor<'_>) -> Result<Expr, Unread>
         requires { AreNested self.now.size self.now.left (U.pre self.now.unary) (U.post self.now.unary) (E.pre self.now.expr) (E.post self.now.expr) (S.pre self.now.specs) (S.post self.now.specs) }
         ensures { Gives (spec.read_unary self.now.size self.now.left (readers_at self.now.size (self.now.left - 1)) cursor.old) result cursor.new }
     {
-        if cursor.sees_prefix() {
+        if sees_prefix(cursor) {
             self.prefixed(cursor)
         } else if cursor.sees_mark("(") {
             self.bracketed(cursor)
@@ -277,19 +286,19 @@ impl<
         let second = self.nested_expr(cursor)?;
         cursor.mark(":", self.left)?;
         let third = self.nested_expr(cursor)?;
-        Ok(Expr::Conditional(
-            Boxed::new(self.alloc, condition)?,
+        Ok(Expr::Conditional {
+            condition: Boxed::new(self.alloc, condition)?,
             place,
-            Boxed::new(self.alloc, second)?,
-            Boxed::new(self.alloc, third)?,
-        ))
+            second: Boxed::new(self.alloc, second)?,
+            third: Boxed::new(self.alloc, third)?,
+        })
     }
 }
 
 impl<
     U: Fn(Global, &mut Cursor<'_>, usize, u32) -> Result<Expr, Unread>,
     E: Fn(Global, &mut Cursor<'_>, usize, u32) -> Result<Expr, Unread>,
-    S: Fn(Global, &mut Cursor<'_>, usize, u32) -> Result<Specs, Unread>,
+    S: Fn(Global, &mut Cursor<'_>, usize, u32) -> Result<Specifiers, Unread>,
 > Grammar<U, E, S> {
     /// What stands behind the first operand of a chain, whose operands are so many levels above the unary expressions.
     #[cycle(chains)]
@@ -300,10 +309,10 @@ impl<
     {
         let mut rest = Items::new(self.alloc);
         for _turn in 0..self.size {
-            if !cursor.sees_operator(10 - below) {
+            if !sees_operator(cursor, 10 - below) {
                 break;
             }
-            let (place, operator) = cursor.operator_at(10 - below, self.left)?;
+            let (place, operator) = operator_at(cursor, 10 - below, self.left)?;
             let value = self.chain(cursor, below)?;
             rest.push(Operand {
                 place,
@@ -330,7 +339,7 @@ impl<
     }
 
     /// An expression.
-    #[tactic(auto, using(crate::proofs::Gathering::choose_sees), unfolding(crate::specs::Expressions::read_expr))]
+    #[tactic(auto, using(c_reader::proofs::Gathering::choose_sees), unfolding(crate::specs::Expressions::read_expr))]
     pub fn expr(&self, cursor: &mut Cursor<'_>) -> Result<Expr, Unread>
         requires { AreNested self.now.size self.now.left (U.pre self.now.unary) (U.post self.now.unary) (E.pre self.now.expr) (E.post self.now.expr) (S.pre self.now.specs) (S.post self.now.specs) }
         ensures { Gives (spec.read_expr self.now.size self.now.left (readers_at self.now.size (self.now.left - 1)) cursor.old) result cursor.new }

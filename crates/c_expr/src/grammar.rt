@@ -2,13 +2,12 @@
 //! is proved by itself.
 
 ghost use Rattle.std.specs.Prelude.{◌-◌};
-ghost use Rattle.c_expr.specs.Outcome.{Gives};
+ghost use Rattle.c_reader.specs.Outcome.{Gives};
 ghost use Rattle.c_expr.specs.Nested.{AreNested};
 ghost use Rattle.c_expr.specs.Levels.{readers_at};
 
-use crate::cursor::Cursor;
-use crate::unread::Unread;
-use c_tree::{Expr, Specs};
+use c_reader::{Cursor, Unread};
+use c_tree::{Expr, Specifiers};
 use std::alloc::Global;
 
 /// What the rules of expressions and types need where `left` levels of nesting are left, in lists of at most `size`
@@ -26,7 +25,7 @@ pub struct Grammar<U, E, S> {
 impl<
     U: Fn(Global, &mut Cursor<'_>, usize, u32) -> Result<Expr, Unread>,
     E: Fn(Global, &mut Cursor<'_>, usize, u32) -> Result<Expr, Unread>,
-    S: Fn(Global, &mut Cursor<'_>, usize, u32) -> Result<Specs, Unread>,
+    S: Fn(Global, &mut Cursor<'_>, usize, u32) -> Result<Specifiers, Unread>,
 > Grammar<U, E, S> {
     /// A nested unary expression.
     pub fn nested_unary(&self, cursor: &mut Cursor<'_>) -> Result<Expr, Unread>
@@ -45,7 +44,7 @@ impl<
     }
 
     /// A nested spelling of a type.
-    pub fn nested_specs(&self, cursor: &mut Cursor<'_>) -> Result<Specs, Unread>
+    pub fn nested_specs(&self, cursor: &mut Cursor<'_>) -> Result<Specifiers, Unread>
         requires { AreNested self.now.size self.now.left (U.pre self.now.unary) (U.post self.now.unary) (E.pre self.now.expr) (E.post self.now.expr) (S.pre self.now.specs) (S.post self.now.specs) }
         ensures { Gives ((readers_at self.now.size (self.now.left - 1)).specs cursor.old) result cursor.new }
     {

@@ -1,10 +1,9 @@
 ghost use Rattle.std.specs.Prelude.{◌≡◌, ℕ, List, true};
 ghost use Rattle.c_tree.specs.Pieces.{Fits};
-ghost use Rattle.c_tree.specs.Expressions.{wants_of_expr, wants_of_specs};
-ghost use Rattle.c_tree.specs.Grammar.{binds, are_specs};
+ghost use Rattle.c_tree.specs.Folds.{wants_of_expr, wants_of_specs, binds, are_specs};
 ghost use Rattle.c_tree.specs.declared.token.Token.{Token};
 ghost use Rattle.c_tree.specs.declared.expressions.Expr.{Expr};
-ghost use Rattle.c_tree.specs.declared.expressions.Specs.{Specs};
+ghost use Rattle.c_tree.specs.declared.expressions.Specifiers.{Specifiers};
 
 /// A list of tokens spells one expression at most, however deeply it is nested. The law has an empty body.
 #[tactic(auto, using(crate::proofs::Oneness::one_expr))]
@@ -15,5 +14,5 @@ pub fn one_expression()
 /// A list of tokens spells one type at most. The law has an empty body.
 #[tactic(auto, using(crate::proofs::Oneness::one_specs))]
 pub fn one_type()
-    ensures { (nesting : ℕ) (a b : Specs) (tokens : List Token) → are_specs a ≡ true → are_specs b ≡ true → Fits (wants_of_specs a nesting) tokens → Fits (wants_of_specs b nesting) tokens → a ≡ b }
+    ensures { (nesting : ℕ) (a b : Specifiers) (tokens : List Token) → are_specs a ≡ true → are_specs b ≡ true → Fits (wants_of_specs a nesting) tokens → Fits (wants_of_specs b nesting) tokens → a ≡ b }
 {}

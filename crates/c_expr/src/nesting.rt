@@ -3,14 +3,14 @@
 
 ghost use Rattle.std.specs.Prelude.{◌<◌, ◌-◌};
 ghost use Rattle.c_expr.specs.Levels.{readers_at};
-ghost use Rattle.c_expr.specs.Outcome.{Gives};
+ghost use Rattle.c_reader.specs.Outcome.{Gives};
 ghost use Rattle.c_expr.specs.Types as types;
 
-use crate::cursor::Cursor;
 use crate::grammar::Grammar;
 use crate::sizes::Sizes;
-use crate::unread::Unread;
-use c_tree::{Dimension, Expr, Specs, Tag};
+use crate::tokens::{no_expr, no_specs};
+use c_reader::{Cursor, Unread};
+use c_tree::{Dimension, Expr, Specifiers, TagSpecifier};
 use sqlite_items::Items;
 use std::alloc::Global;
 
@@ -20,7 +20,7 @@ pub fn unary(alloc: Global, cursor: &mut Cursor<'_>, size: usize, left: u32) -> 
     ensures { Gives ((readers_at size left).unary cursor.old) result cursor.new }
 {
     if left == 0 {
-        return Err(cursor.no_expr());
+        return Err(no_expr(cursor));
     }
     let grammar = Grammar {
         alloc,
@@ -39,7 +39,7 @@ pub fn expr(alloc: Global, cursor: &mut Cursor<'_>, size: usize, left: u32) -> R
     ensures { Gives ((readers_at size left).expr cursor.old) result cursor.new }
 {
     if left == 0 {
-        return Err(cursor.no_expr());
+        return Err(no_expr(cursor));
     }
     let grammar = Grammar {
         alloc,
@@ -59,11 +59,11 @@ pub fn specs(
     cursor: &mut Cursor<'_>,
     size: usize,
     left: u32,
-) -> Result<Specs, Unread>
+) -> Result<Specifiers, Unread>
     ensures { Gives ((readers_at size left).specs cursor.old) result cursor.new }
 {
     if left == 0 {
-        return Err(cursor.no_specs());
+        return Err(no_specs(cursor));
     }
     let grammar = Grammar {
         alloc,
@@ -95,7 +95,12 @@ pub fn dimensions(
 }
 
 /// A struct or an enum.
-pub fn tag(alloc: Global, cursor: &mut Cursor<'_>, size: usize, left: u32) -> Result<Tag, Unread>
+pub fn tag(
+    alloc: Global,
+    cursor: &mut Cursor<'_>,
+    size: usize,
+    left: u32,
+) -> Result<TagSpecifier, Unread>
     requires { 0 < left }
     ensures { Gives (types.read_tag size left (readers_at size (left - 1)) (readers_at size left).expr cursor.old) result cursor.new }
 {

@@ -2,20 +2,18 @@
 
 ghost use Rattle.std.specs.Prelude.{◌≡◌, ◌+◌, ◌-◌, ◌^◌, ◌<◌, ◌≤◌, ℕ, true, List, ◌++◌, ◌∷◌, [], length, drop, IfOk, IfErr, MatchResult};
 ghost use Rattle.c_tree.specs.TokenLists.{is_closed};
-ghost use Rattle.c_tree.specs.Expressions.{wants_of_expr};
+ghost use Rattle.c_tree.specs.Folds.{wants_of_expr};
 ghost use Rattle.c_tree.specs.declared.token.Token.{Token};
 ghost use Rattle.c_tree.specs.declared.expressions.Expr.{Expr};
-ghost use Rattle.c_expr.specs.Alone as spec;
+ghost use Rattle.c_reader.specs.Alone as spec;
 ghost use Rattle.c_expr.specs.Levels.{readers_at};
-ghost use Rattle.c_expr.specs.Reading.{bad};
-ghost use Rattle.c_expr.specs.Runs.{AreShallow, SpellsExpr, IsRun, IsTaken, IsFaultOf};
-ghost use Rattle.c_expr.specs.Samples as samples;
+ghost use Rattle.c_reader.specs.Reading.{bad};
+ghost use Rattle.c_reader.specs.Depths.{AreShallow};
+ghost use Rattle.c_expr.specs.Runs.{SpellsExpr, IsRun, IsTaken, IsFaultOf};
+ghost use Rattle.c_reader.specs.Samples as samples;
 
-use crate::cursor::Cursor;
-use crate::faults::{SyntaxFault, fault_at, names_construct};
 use crate::nesting::expr;
-use crate::samples::{Sample, end};
-use crate::unread::Unread;
+use c_reader::{Cursor, Sample, SyntaxFault, Unread, end, fault_at, names_construct};
 use c_tree::{Expr, Token, Tokens};
 use hy_bits::Memory;
 use std::alloc::Global;
@@ -62,7 +60,7 @@ fn can_stand(
 }
 
 /// The fault at a token that can't be used behind these, with which an expression begins but which are none.
-#[tactic(auto, using(crate::proofs::Ending::probe_closed), unfolding(crate::specs::Alone::fault_of))]
+#[tactic(auto, using(c_reader::proofs::Ending::probe_closed), unfolding(c_reader::specs::Alone::fault_of))]
 fn fault_behind(
     alloc: Global,
     before: &[Token],

@@ -1,14 +1,11 @@
 //! Dimensions of declared names (C11 6.7.6.2).
 
 ghost use Rattle.c_expr.specs.Levels.{readers_at};
-ghost use Rattle.c_expr.specs.Nested.{ReadsBy};
-ghost use Rattle.c_expr.specs.Outcome.{Gives};
+ghost use Rattle.c_reader.specs.Nested.{ReadsBy};
+ghost use Rattle.c_reader.specs.Outcome.{Gives};
 ghost use Rattle.c_expr.specs.Types as spec;
 
-use crate::cursor::Cursor;
-use crate::lists::many;
-use crate::tables::is_mark;
-use crate::unread::Unread;
+use c_reader::{Cursor, Unread, is_mark, many};
 use c_tree::{Dimension, Expr};
 use sqlite_items::Items;
 use std::alloc::Global;
@@ -33,7 +30,7 @@ impl<E: Fn(Global, &mut Cursor<'_>, usize, u32) -> Result<Expr, Unread>> Sizes<E
     }
 
     /// `[expr]`, in front of a closing bracket.
-    #[tactic(auto, using(crate::proofs::Gathering::choose_sees), unfolding(crate::specs::Types::read_size))]
+    #[tactic(auto, using(c_reader::proofs::Gathering::choose_sees), unfolding(crate::specs::Types::read_size))]
     fn number(&self, cursor: &mut Cursor<'_>) -> Result<Option<Expr>, Unread>
         requires { ReadsBy (readers_at self.now.size self.now.left).expr self.now.size self.now.left (E.pre self.now.expr) (E.post self.now.expr) }
         ensures { Gives (spec.read_size (readers_at self.now.size self.now.left).expr cursor.old) result cursor.new }

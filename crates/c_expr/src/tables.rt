@@ -1,108 +1,54 @@
-ghost use Rattle.std.specs.Prelude.{◌≡◌, if◌then◌else◌, map};
+ghost use Rattle.std.specs.Prelude.{◌≡◌, if◌then◌else◌};
 ghost use Rattle.c_tree.specs.Operators as operators;
 ghost use Rattle.c_expr.specs.Tokens as spec;
 ghost use Rattle.c_expr.specs.Types as types;
 
-use c_tree::{Literal, Operator, Prefix, Token, TokenKind, TypeWord};
-
-/// Whether a token is of this kind.
-#[tactic(auto, unfolding(crate::specs::Tokens::is_kind))]
-pub fn is_kind(kind: TokenKind, token: &Token) -> bool
-    ensures { result ≡ spec.is_kind kind token.now }
-{
-    token.kind == kind
-}
-
-/// Whether a token is of this kind and spelled so.
-#[tactic(auto, unfolding(crate::specs::Tokens::is_spelled))]
-fn is_spelled(kind: TokenKind, text: &str, token: &Token) -> bool
-    ensures { result ≡ spec.is_spelled kind text.now token.now }
-{
-    is_kind(kind, token) && token.text.is(text.as_bytes())
-}
-
-/// Whether a token is this mark.
-pub fn is_mark(text: &str, token: &Token) -> bool
-    ensures { result ≡ spec.is_mark text.now token.now }
-{
-    is_spelled(TokenKind::Mark, text, token)
-}
-
-/// Whether a token is this reserved word.
-pub fn is_word(text: &str, token: &Token) -> bool
-    ensures { result ≡ spec.is_word text.now token.now }
-{
-    is_spelled(TokenKind::Word, text, token)
-}
-
-/// What a table has for a text: the first entry that is spelled so.
-#[tactic(auto, unfolding(crate::specs::Tokens::found_in))]
-fn found_in<T: Copy>(entries: &[(&str, T)], text: &[u8]) -> Option<T>
-    ensures { result ≡ spec.found_in (map (λ e. (e.0.now, e.1)) entries.now) text.now }
-{
-    for (spelling, value) in entries {
-        if text == spelling.as_bytes() {
-            return Some(*value);
-        }
-    }
-    None
-}
-
-/// What a table has for the text of a token of a kind.
-#[tactic(auto, unfolding(crate::specs::Tokens::found_of))]
-pub fn found_of<T: Copy>(kind: TokenKind, entries: &[(&str, T)], token: &Token) -> Option<T>
-    ensures { result ≡ spec.found_of kind (map (λ e. (e.0.now, e.1)) entries.now) token.now }
-{
-    if is_kind(kind, token) {
-        found_in(entries, token.text.as_bytes())
-    } else {
-        None
-    }
-}
+use c_reader::{found_in, found_of, is_kind, is_mark, is_word};
+use c_tree::{BinaryOperator, Literal, Token, TokenKind, TypeWord, UnaryOperator};
 
 /// The operators in front of their operands.
-const PREFIXES: [(&str, Prefix); 6] = [
-    ("+", Prefix::Plus),
-    ("-", Prefix::Minus),
-    ("~", Prefix::Complement),
-    ("!", Prefix::Not),
-    ("*", Prefix::Target),
-    ("&", Prefix::Address),
+const PREFIXES: [(&str, UnaryOperator); 6] = [
+    ("+", UnaryOperator::Plus),
+    ("-", UnaryOperator::Minus),
+    ("~", UnaryOperator::Complement),
+    ("!", UnaryOperator::Not),
+    ("*", UnaryOperator::Indirection),
+    ("&", UnaryOperator::Address),
 ];
 
 /// The operator in front of an operand that a token is, if it is one.
 #[tactic(auto, unfolding(crate::specs::Tokens::prefix_of))]
-pub fn prefix_of(token: &Token) -> Option<Prefix>
+pub fn prefix_of(token: &Token) -> Option<UnaryOperator>
     ensures { result ≡ spec.prefix_of token.now }
 {
     found_of(TokenKind::Mark, PREFIXES.as_slice(), token)
 }
 
 /// The operators between two operands.
-const OPERATORS: [(&str, Operator); 18] = [
-    ("||", Operator::OrElse),
-    ("&&", Operator::AndThen),
-    ("|", Operator::Or),
-    ("^", Operator::Xor),
-    ("&", Operator::And),
-    ("==", Operator::Equal),
-    ("!=", Operator::Unequal),
-    ("<", Operator::Less),
-    (">", Operator::Greater),
-    ("<=", Operator::LessOrEqual),
-    (">=", Operator::GreaterOrEqual),
-    ("<<", Operator::ShiftLeft),
-    (">>", Operator::ShiftRight),
-    ("+", Operator::Add),
-    ("-", Operator::Subtract),
-    ("*", Operator::Multiply),
-    ("/", Operator::Divide),
-    ("%", Operator::Remainder),
+const OPERATORS: [(&str, BinaryOperator); 18] = [
+    ("||", BinaryOperator::LogicalOr),
+    ("&&", BinaryOperator::LogicalAnd),
+    ("|", BinaryOperator::Or),
+    ("^", BinaryOperator::Xor),
+    ("&", BinaryOperator::And),
+    ("==", BinaryOperator::Equal),
+    ("!=", BinaryOperator::Unequal),
+    ("<", BinaryOperator::Less),
+    (">", BinaryOperator::Greater),
+    ("<=", BinaryOperator::LessOrEqual),
+    (">=", BinaryOperator::GreaterOrEqual),
+    ("<<", BinaryOperator::ShiftLeft),
+    (">>", BinaryOperator::ShiftRight),
+    ("+", BinaryOperator::Add),
+    ("-", BinaryOperator::Subtract),
+    ("*", BinaryOperator::Multiply),
+    ("/", BinaryOperator::Divide),
+    ("%", BinaryOperator::Remainder),
 ];
 
 /// The operator between two operands that a token is, if it is one.
 #[tactic(auto, unfolding(crate::specs::Tokens::operator_of))]
-pub fn operator_of(token: &Token) -> Option<Operator>
+pub fn operator_of(token: &Token) -> Option<BinaryOperator>
     ensures { result ≡ spec.operator_of token.now }
 {
     found_of(TokenKind::Mark, OPERATORS.as_slice(), token)
@@ -154,25 +100,28 @@ pub fn literal_of(token: &Token) -> Option<Literal>
 }
 
 /// How strongly an operator binds, from 1 for `||` to 10 for `*` (C11 6.5.5 to 6.5.14).
-pub fn level_of(operator: Operator) -> u8
+pub fn level_of(operator: BinaryOperator) -> u8
     ensures { result ≡ operators.level_of operator }
 {
     match operator {
-        Operator::OrElse => 1,
-        Operator::AndThen => 2,
-        Operator::Or => 3,
-        Operator::Xor => 4,
-        Operator::And => 5,
-        Operator::Equal | Operator::Unequal => 6,
-        Operator::Less | Operator::Greater | Operator::LessOrEqual | Operator::GreaterOrEqual => 7,
-        Operator::ShiftLeft | Operator::ShiftRight => 8,
-        Operator::Add | Operator::Subtract => 9,
-        Operator::Multiply | Operator::Divide | Operator::Remainder => 10,
+        BinaryOperator::LogicalOr => 1,
+        BinaryOperator::LogicalAnd => 2,
+        BinaryOperator::Or => 3,
+        BinaryOperator::Xor => 4,
+        BinaryOperator::And => 5,
+        BinaryOperator::Equal | BinaryOperator::Unequal => 6,
+        BinaryOperator::Less
+        | BinaryOperator::Greater
+        | BinaryOperator::LessOrEqual
+        | BinaryOperator::GreaterOrEqual => 7,
+        BinaryOperator::ShiftLeft | BinaryOperator::ShiftRight => 8,
+        BinaryOperator::Add | BinaryOperator::Subtract => 9,
+        BinaryOperator::Multiply | BinaryOperator::Divide | BinaryOperator::Remainder => 10,
     }
 }
 
 /// The operator of this level between two operands that a token is, if it is one.
-pub fn operator_of_level(level: u8, token: &Token) -> Option<Operator>
+pub fn operator_of_level(level: u8, token: &Token) -> Option<BinaryOperator>
     ensures { result ≡ (if spec.is_operator level token.now then spec.operator_of token.now else None) }
 {
     match operator_of(token) {
@@ -198,13 +147,6 @@ pub fn is_prefix(token: &Token) -> bool
     prefix_of(token).is_some()
 }
 
-/// Whether a token is a literal.
-pub fn is_literal(token: &Token) -> bool
-    ensures { result ≡ spec.is_literal token.now }
-{
-    literal_of(token).is_some()
-}
-
 /// Whether a token is a word of a type's spelling.
 pub fn is_type_word(token: &Token) -> bool
     ensures { result ≡ spec.is_type_word token.now }
@@ -213,7 +155,7 @@ pub fn is_type_word(token: &Token) -> bool
 }
 
 /// Whether an index or a member begins with this token.
-#[tactic(auto, unfolding(crate::specs::Tokens::suffix_by, crate::specs::Tokens::spelled_by, crate::specs::Tokens::is_spelled, crate::specs::Tokens::is_kind))]
+#[tactic(auto, unfolding(crate::specs::Tokens::suffix_by, c_reader::specs::Tokens::spelled_by, c_reader::specs::Tokens::is_spelled, c_reader::specs::Tokens::is_kind))]
 pub fn is_suffix(token: &Token) -> bool
     ensures { result ≡ spec.is_suffix token.now }
 {
@@ -221,7 +163,7 @@ pub fn is_suffix(token: &Token) -> bool
 }
 
 /// Whether a type's spelling begins with this token.
-#[tactic(auto, unfolding(crate::specs::Tokens::type_by, crate::specs::Tokens::spelled_by, crate::specs::Tokens::is_spelled, crate::specs::Tokens::is_kind, crate::specs::Tokens::found_by, crate::specs::Tokens::found_of, crate::specs::Tokens::type_word_of))]
+#[tactic(auto, unfolding(crate::specs::Tokens::type_by, c_reader::specs::Tokens::spelled_by, c_reader::specs::Tokens::is_spelled, c_reader::specs::Tokens::is_kind, c_reader::specs::Tokens::found_by, c_reader::specs::Tokens::found_of, crate::specs::Tokens::type_word_of))]
 pub fn starts_type(token: &Token) -> bool
     ensures { result ≡ spec.starts_type token.now }
 {
@@ -239,7 +181,7 @@ pub fn is_tag_word(token: &Token) -> bool
 }
 
 /// Whether an expression begins with this token.
-#[tactic(auto, unfolding(crate::specs::Tokens::expr_by, crate::specs::Tokens::spelled_by, crate::specs::Tokens::is_spelled, crate::specs::Tokens::is_kind, crate::specs::Tokens::found_by, crate::specs::Tokens::found_of, crate::specs::Tokens::prefix_of))]
+#[tactic(auto, unfolding(crate::specs::Tokens::expr_by, c_reader::specs::Tokens::spelled_by, c_reader::specs::Tokens::is_spelled, c_reader::specs::Tokens::is_kind, c_reader::specs::Tokens::found_by, c_reader::specs::Tokens::found_of, crate::specs::Tokens::prefix_of))]
 pub fn starts_expr(token: &Token) -> bool
     ensures { result ≡ spec.starts_expr token.now }
 {

@@ -3,16 +3,15 @@
 ghost use Rattle.std.specs.Prelude.{◌≡◌, ◌++◌, true, Some, None, if◌then◌else◌, IfOk};
 ghost use Rattle.c_tree.specs.TypeWords as spelling;
 ghost use Rattle.c_expr.specs.Counting.{Few};
-ghost use Rattle.c_expr.specs.Outcome.{Gives, sees};
-ghost use Rattle.c_expr.specs.Reading as reading;
+ghost use Rattle.c_reader.specs.Outcome.{Gives, sees};
+ghost use Rattle.c_reader.specs.Reading as reading;
 ghost use Rattle.c_expr.specs.Types as spec;
 
 use crate::counts::Counts;
-use crate::cursor::Cursor;
-use crate::lists::only;
 use crate::tables::type_word_of;
-use crate::unread::Unread;
-use c_tree::{Spelling, Token, TypeWord};
+use crate::tokens::type_word_at;
+use c_reader::{Cursor, Unread, only};
+use c_tree::{Token, TypeSpecifier, TypeWord};
 use sqlite_items::Items;
 use std::alloc::Global;
 
@@ -86,11 +85,11 @@ pub fn type_words(
     cursor: &mut Cursor<'_>,
     size: usize,
     left: u32,
-) -> Result<Spelling, Unread>
+) -> Result<TypeSpecifier, Unread>
     ensures { Gives (spec.read_type_words size left cursor.old) result cursor.new }
 {
-    let (place, word) = cursor.type_word_at(left)?;
+    let (place, word) = type_word_at(cursor, left)?;
     let counts = Counts::none().with_word(word);
     let words = words_behind(cursor, size, left, counts, only(alloc, word)?)?;
-    Ok(Spelling::Words(place, words))
+    Ok(TypeSpecifier::Words(place, words))
 }

@@ -4,20 +4,24 @@ ghost use Rattle.std.specs.Prelude.{◌++◌, ◌-◌, codes};
 ghost use Rattle.c_expr.specs.Expressions as expressions;
 ghost use Rattle.c_expr.specs.Levels.{readers_at};
 ghost use Rattle.c_expr.specs.Nested.{AreNested};
-ghost use Rattle.c_expr.specs.Outcome.{Gives};
-ghost use Rattle.c_expr.specs.Reading as reading;
+ghost use Rattle.c_reader.specs.Outcome.{Gives};
+ghost use Rattle.c_reader.specs.Lists as lists;
+ghost use Rattle.c_reader.specs.Reading as reading;
+ghost use Rattle.c_reader.specs.Tokens.{is_kind as is_kind_of};
 ghost use Rattle.c_expr.specs.Tokens as tokens;
 ghost use Rattle.c_expr.specs.Types as spec;
 
-use crate::cursor::Cursor;
 use crate::grammar::Grammar;
-use crate::lists::{many, many_behind, more_behind, only, separated_by};
 use crate::sizes::Sizes;
-use crate::tables::{is_kind, is_word, starts_type};
+use crate::tables::starts_type;
+use crate::tokens::sees_type_word;
 use crate::type_words::type_words;
-use crate::unread::Unread;
+use c_reader::{
+    Cursor, Unread, is_kind, is_word, many, many_behind, more_behind, only, separated_by,
+};
 use c_tree::{
-    Dimensioned, Enumerator, Expr, Member, Named, Place, Specs, Spelling, Tag, TokenKind,
+    Enumerator, Expr, Identifier, Place, Specifiers, StructDeclaration, StructDeclarator,
+    TagSpecifier, TokenKind, TrailingComma, TypeSpecifier,
 };
 use sqlite_items::Items;
 use std::alloc::Global;
@@ -25,11 +29,11 @@ use std::alloc::Global;
 impl<
     U: Fn(Global, &mut Cursor<'_>, usize, u32) -> Result<Expr, Unread>,
     E: Fn(Global, &mut Cursor<'_>, usize, u32) -> Result<Expr, Unread> + Copy,
-    S: Fn(Global, &mut Cursor<'_>, usize, u32) -> Result<Specs, Unread>,
+    S: Fn(Global, &mut Cursor<'_>, usize, u32) -> Result<Specifiers, Unread>,
 > Grammar<U, E, S> {
     /// `NAME dims`, nested in a struct.
     #[tactic(auto, unfolding(crate::specs::Types::read_dimensioned))]
-    fn dimensioned(&self, cursor: &mut Cursor<'_>) -> Result<Dimensioned, Unread>
+    fn dimensioned(&self, cursor: &mut Cursor<'_>) -> Result<StructDeclarator, Unread>
         requires { AreNested self.now.size self.now.left (U.pre self.now.unary) (U.post self.now.unary) (E.pre self.now.expr) (E.post self.now.expr) (S.pre self.now.specs) (S.post self.now.specs) }
         ensures { Gives (spec.read_dimensioned self.now.size (self.now.left - 1) (readers_at self.now.size (self.now.left - 1)).expr cursor.old) result cursor.new }
     {
@@ -41,13 +45,13 @@ impl<
             expr: self.expr,
         };
         let dimensions = sizes.dimensions(cursor)?;
-        Ok(Dimensioned { name, dimensions })
+        Ok(StructDeclarator { name, dimensions })
     }
 
     /// `NAME dims ("," NAME dims)*`, nested in a struct.
-    fn some_dimensioned(&self, cursor: &mut Cursor<'_>) -> Result<Items<Dimensioned>, Unread>
+    fn some_dimensioned(&self, cursor: &mut Cursor<'_>) -> Result<Items<StructDeclarator>, Unread>
         requires { AreNested self.now.size self.now.left (U.pre self.now.unary) (U.post self.now.unary) (E.pre self.now.expr) (E.post self.now.expr) (S.pre self.now.specs) (S.post self.now.specs) }
-        ensures { Gives (expressions.separated_by self.now.size (codes ",") (self.now.left - 1) (spec.read_dimensioned self.now.size (self.now.left - 1) (readers_at self.now.size (self.now.left - 1)).expr) cursor.old) result cursor.new }
+        ensures { Gives (lists.separated_by self.now.size (codes ",") (self.now.left - 1) (spec.read_dimensioned self.now.size (self.now.left - 1) (readers_at self.now.size (self.now.left - 1)).expr) cursor.old) result cursor.new }
     {
         separated_by(
             self.alloc,
@@ -61,22 +65,22 @@ impl<
 
     /// `specs NAME dims ("," NAME dims)* ";"`, nested in a struct.
     #[tactic(auto, using(crate::proofs::Depths::left_of), unfolding(crate::specs::Types::read_members_of))]
-    fn members_of(&self, cursor: &mut Cursor<'_>) -> Result<Member, Unread>
+    fn members_of(&self, cursor: &mut Cursor<'_>) -> Result<StructDeclaration, Unread>
         requires { AreNested self.now.size self.now.left (U.pre self.now.unary) (U.post self.now.unary) (E.pre self.now.expr) (E.post self.now.expr) (S.pre self.now.specs) (S.post self.now.specs) }
         ensures { Gives (spec.read_members_of self.now.size (readers_at self.now.size (self.now.left - 1)) cursor.old) result cursor.new }
     {
         let specs = self.nested_specs(cursor)?;
         let names = self.some_dimensioned(cursor)?;
         cursor.mark(";", self.left - 1)?;
-        Ok(Member { specs, names })
+        Ok(StructDeclaration { specs, names })
     }
 
     /// Members behind the first.
     fn more_members(
         &self,
         cursor: &mut Cursor<'_>,
-        first: Items<Member>,
-    ) -> Result<Items<Member>, Unread>
+        first: Items<StructDeclaration>,
+    ) -> Result<Items<StructDeclaration>, Unread>
         requires { AreNested self.now.size self.now.left (U.pre self.now.unary) (U.post self.now.unary) (E.pre self.now.expr) (E.post self.now.expr) (S.pre self.now.specs) (S.post self.now.specs) }
         ensures { Gives (reading.after (reading.many self.now.size tokens.starts_type (spec.read_members_of self.now.size (readers_at self.now.size (self.now.left - 1))) cursor.old) (λ rest. reading.give (first ++ rest))) result cursor.new }
     {
@@ -91,7 +95,7 @@ impl<
 
     /// `"{" member+ "}"`
     #[tactic(auto, using(crate::proofs::Depths::left_of), unfolding(crate::specs::Types::read_struct_body))]
-    fn struct_body(&self, cursor: &mut Cursor<'_>) -> Result<Items<Member>, Unread>
+    fn struct_body(&self, cursor: &mut Cursor<'_>) -> Result<Items<StructDeclaration>, Unread>
         requires { AreNested self.now.size self.now.left (U.pre self.now.unary) (U.post self.now.unary) (E.pre self.now.expr) (E.post self.now.expr) (S.pre self.now.specs) (S.post self.now.specs) }
         ensures { Gives (spec.read_struct_body self.now.size (readers_at self.now.size (self.now.left - 1)) cursor.old) result cursor.new }
     {
@@ -103,27 +107,35 @@ impl<
     }
 
     /// The body of a struct if there is one, behind its name.
-    #[tactic(auto, using(crate::proofs::Gathering::choose_sees), unfolding(crate::specs::Types::read_struct_behind))]
+    #[tactic(auto, using(c_reader::proofs::Gathering::choose_sees), unfolding(crate::specs::Types::read_struct_behind))]
     fn struct_behind(
         &self,
         cursor: &mut Cursor<'_>,
         place: Place,
-        name: Named,
-    ) -> Result<Tag, Unread>
+        name: Identifier,
+    ) -> Result<TagSpecifier, Unread>
         requires { AreNested self.now.size self.now.left (U.pre self.now.unary) (U.post self.now.unary) (E.pre self.now.expr) (E.post self.now.expr) (S.pre self.now.specs) (S.post self.now.specs) }
         ensures { Gives (spec.read_struct_behind self.now.size (readers_at self.now.size (self.now.left - 1)) place name cursor.old) result cursor.new }
     {
         if cursor.sees_mark("{") {
             let members = self.struct_body(cursor)?;
-            Ok(Tag::Struct(place, Some(name), Some(members)))
+            Ok(TagSpecifier::Struct {
+                place,
+                tag: Some(name),
+                members: Some(members),
+            })
         } else {
-            Ok(Tag::Struct(place, Some(name), None))
+            Ok(TagSpecifier::Struct {
+                place,
+                tag: Some(name),
+                members: None,
+            })
         }
     }
 
     /// `"struct" (NAME ["{" member+ "}"] | "{" member+ "}")`
-    #[tactic(auto, using(crate::proofs::Gathering::choose_sees), unfolding(crate::specs::Types::read_struct))]
-    fn struct_tag(&self, cursor: &mut Cursor<'_>) -> Result<Tag, Unread>
+    #[tactic(auto, using(c_reader::proofs::Gathering::choose_sees), unfolding(crate::specs::Types::read_struct))]
+    fn struct_tag(&self, cursor: &mut Cursor<'_>) -> Result<TagSpecifier, Unread>
         requires { AreNested self.now.size self.now.left (U.pre self.now.unary) (U.post self.now.unary) (E.pre self.now.expr) (E.post self.now.expr) (S.pre self.now.specs) (S.post self.now.specs) }
         ensures { Gives (spec.read_struct self.now.size self.now.left (readers_at self.now.size (self.now.left - 1)) cursor.old) result cursor.new }
     {
@@ -133,11 +145,15 @@ impl<
             return self.struct_behind(cursor, place, name);
         }
         let members = self.struct_body(cursor)?;
-        Ok(Tag::Struct(place, None, Some(members)))
+        Ok(TagSpecifier::Struct {
+            place,
+            tag: None,
+            members: Some(members),
+        })
     }
 
     /// `["=" expr]`
-    #[tactic(auto, using(crate::proofs::Gathering::choose_sees), unfolding(crate::specs::Types::read_value))]
+    #[tactic(auto, using(c_reader::proofs::Gathering::choose_sees), unfolding(crate::specs::Types::read_value))]
     fn value(&self, cursor: &mut Cursor<'_>) -> Result<Option<Expr>, Unread>
         requires { AreNested self.now.size self.now.left (U.pre self.now.unary) (U.post self.now.unary) (E.pre self.now.expr) (E.post self.now.expr) (S.pre self.now.specs) (S.post self.now.specs) }
         ensures { Gives (spec.read_value self.now.left (expressions.read_expr self.now.size self.now.left (readers_at self.now.size (self.now.left - 1))) cursor.old) result cursor.new }
@@ -167,9 +183,9 @@ impl<
         &self,
         cursor: &mut Cursor<'_>,
         first: Items<Enumerator>,
-    ) -> Result<(Items<Enumerator>, bool), Unread>
+    ) -> Result<(Items<Enumerator>, TrailingComma), Unread>
         requires { AreNested self.now.size self.now.left (U.pre self.now.unary) (U.post self.now.unary) (E.pre self.now.expr) (E.post self.now.expr) (S.pre self.now.specs) (S.post self.now.specs) }
-        ensures { Gives (reading.after (spec.read_more self.now.size (codes ",") (tokens.is_kind TokenKind.Name) self.now.left (spec.read_enumerator self.now.left (expressions.read_expr self.now.size self.now.left (readers_at self.now.size (self.now.left - 1)))) cursor.old) (λ rest. reading.give (first ++ rest.0, rest.1))) result cursor.new }
+        ensures { Gives (reading.after (lists.read_more self.now.size (codes ",") (is_kind_of TokenKind.Name) self.now.left (spec.read_enumerator self.now.left (expressions.read_expr self.now.size self.now.left (readers_at self.now.size (self.now.left - 1)))) cursor.old) (λ rest. reading.give (first ++ rest.0, rest.1))) result cursor.new }
     {
         more_behind(
             cursor,
@@ -184,34 +200,52 @@ impl<
 
     /// `"{" NAME ["=" expr] ("," NAME ["=" expr])* [","] "}"`
     #[tactic(auto, unfolding(crate::specs::Types::read_enum_body))]
-    fn enum_body(&self, cursor: &mut Cursor<'_>) -> Result<(Items<Enumerator>, bool), Unread>
+    fn enum_body(
+        &self,
+        cursor: &mut Cursor<'_>,
+    ) -> Result<(Items<Enumerator>, TrailingComma), Unread>
         requires { AreNested self.now.size self.now.left (U.pre self.now.unary) (U.post self.now.unary) (E.pre self.now.expr) (E.post self.now.expr) (S.pre self.now.specs) (S.post self.now.specs) }
         ensures { Gives (spec.read_enum_body self.now.size self.now.left (expressions.read_expr self.now.size self.now.left (readers_at self.now.size (self.now.left - 1))) cursor.old) result cursor.new }
     {
         cursor.mark("{", self.left)?;
         let first = self.enumerator(cursor)?;
-        let (constants, comma) = self.more_enumerators(cursor, only(self.alloc, first)?)?;
+        let (enumerators, comma) = self.more_enumerators(cursor, only(self.alloc, first)?)?;
         cursor.mark("}", self.left)?;
-        Ok((constants, comma))
+        Ok((enumerators, comma))
     }
 
     /// The body of an enum if there is one, behind its name.
-    #[tactic(auto, using(crate::proofs::Gathering::choose_sees), unfolding(crate::specs::Types::read_enum_behind))]
-    fn enum_behind(&self, cursor: &mut Cursor<'_>, place: Place, name: Named) -> Result<Tag, Unread>
+    #[tactic(auto, using(c_reader::proofs::Gathering::choose_sees), unfolding(crate::specs::Types::read_enum_behind))]
+    fn enum_behind(
+        &self,
+        cursor: &mut Cursor<'_>,
+        place: Place,
+        name: Identifier,
+    ) -> Result<TagSpecifier, Unread>
         requires { AreNested self.now.size self.now.left (U.pre self.now.unary) (U.post self.now.unary) (E.pre self.now.expr) (E.post self.now.expr) (S.pre self.now.specs) (S.post self.now.specs) }
         ensures { Gives (spec.read_enum_behind self.now.size self.now.left (expressions.read_expr self.now.size self.now.left (readers_at self.now.size (self.now.left - 1))) place name cursor.old) result cursor.new }
     {
         if cursor.sees_mark("{") {
-            let (constants, comma) = self.enum_body(cursor)?;
-            Ok(Tag::Enum(place, Some(name), Some(constants), comma))
+            let (enumerators, comma) = self.enum_body(cursor)?;
+            Ok(TagSpecifier::Enum {
+                place,
+                tag: Some(name),
+                enumerators: Some(enumerators),
+                comma,
+            })
         } else {
-            Ok(Tag::Enum(place, Some(name), None, false))
+            Ok(TagSpecifier::Enum {
+                place,
+                tag: Some(name),
+                enumerators: None,
+                comma: TrailingComma::Absent,
+            })
         }
     }
 
     /// `"enum" (NAME ["{" list "}"] | "{" list "}")`
-    #[tactic(auto, using(crate::proofs::Gathering::choose_sees), unfolding(crate::specs::Types::read_enum))]
-    fn enum_tag(&self, cursor: &mut Cursor<'_>) -> Result<Tag, Unread>
+    #[tactic(auto, using(c_reader::proofs::Gathering::choose_sees), unfolding(crate::specs::Types::read_enum))]
+    fn enum_tag(&self, cursor: &mut Cursor<'_>) -> Result<TagSpecifier, Unread>
         requires { AreNested self.now.size self.now.left (U.pre self.now.unary) (U.post self.now.unary) (E.pre self.now.expr) (E.post self.now.expr) (S.pre self.now.specs) (S.post self.now.specs) }
         ensures { Gives (spec.read_enum self.now.size self.now.left (expressions.read_expr self.now.size self.now.left (readers_at self.now.size (self.now.left - 1))) cursor.old) result cursor.new }
     {
@@ -220,13 +254,18 @@ impl<
             let name = cursor.name(self.alloc, self.left)?;
             return self.enum_behind(cursor, place, name);
         }
-        let (constants, comma) = self.enum_body(cursor)?;
-        Ok(Tag::Enum(place, None, Some(constants), comma))
+        let (enumerators, comma) = self.enum_body(cursor)?;
+        Ok(TagSpecifier::Enum {
+            place,
+            tag: None,
+            enumerators: Some(enumerators),
+            comma,
+        })
     }
 
     /// A struct or an enum.
-    #[tactic(auto, using(crate::proofs::Gathering::choose_sees), unfolding(crate::specs::Types::read_tag))]
-    pub fn tag(&self, cursor: &mut Cursor<'_>) -> Result<Tag, Unread>
+    #[tactic(auto, using(c_reader::proofs::Gathering::choose_sees), unfolding(crate::specs::Types::read_tag))]
+    pub fn tag(&self, cursor: &mut Cursor<'_>) -> Result<TagSpecifier, Unread>
         requires { AreNested self.now.size self.now.left (U.pre self.now.unary) (U.post self.now.unary) (E.pre self.now.expr) (E.post self.now.expr) (S.pre self.now.specs) (S.post self.now.specs) }
         ensures { Gives (spec.read_tag self.now.size self.now.left (readers_at self.now.size (self.now.left - 1)) (expressions.read_expr self.now.size self.now.left (readers_at self.now.size (self.now.left - 1))) cursor.old) result cursor.new }
     {
@@ -237,21 +276,21 @@ impl<
         }
     }
 
-    /// Words, a name that a `typedef` declares, a struct or an enum.
-    #[tactic(auto, using(crate::proofs::Gathering::choose_sees), unfolding(crate::specs::Types::read_spelling))]
-    fn spelling(&self, cursor: &mut Cursor<'_>) -> Result<Spelling, Unread>
+    /// FunctionSpecifiers, a name that a `typedef` declares, a struct or an enum.
+    #[tactic(auto, using(c_reader::proofs::Gathering::choose_sees), unfolding(crate::specs::Types::read_spelling))]
+    fn spelling(&self, cursor: &mut Cursor<'_>) -> Result<TypeSpecifier, Unread>
         requires { AreNested self.now.size self.now.left (U.pre self.now.unary) (U.post self.now.unary) (E.pre self.now.expr) (E.post self.now.expr) (S.pre self.now.specs) (S.post self.now.specs) }
         ensures { Gives (spec.read_spelling self.now.size self.now.left (readers_at self.now.size (self.now.left - 1)) (expressions.read_expr self.now.size self.now.left (readers_at self.now.size (self.now.left - 1))) cursor.old) result cursor.new }
     {
-        if cursor.sees_type_word() {
+        if sees_type_word(cursor) {
             return type_words(self.alloc, cursor, self.size, self.left);
         }
         if cursor.sees_kind(TokenKind::TypeName) {
             let name = cursor.type_name(self.alloc, self.left)?;
-            return Ok(Spelling::TypeName(name));
+            return Ok(TypeSpecifier::TypeName(name));
         }
         let tag = self.tag(cursor)?;
-        Ok(Spelling::Tag(tag))
+        Ok(TypeSpecifier::TagSpecifier(tag))
     }
 
     /// `"const"*`
@@ -270,14 +309,14 @@ impl<
 
     /// `"const"* (words | tag | TYPENAME) "const"*`
     #[tactic(auto, unfolding(crate::specs::Types::read_specs))]
-    pub fn specs(&self, cursor: &mut Cursor<'_>) -> Result<Specs, Unread>
+    pub fn specs(&self, cursor: &mut Cursor<'_>) -> Result<Specifiers, Unread>
         requires { AreNested self.now.size self.now.left (U.pre self.now.unary) (U.post self.now.unary) (E.pre self.now.expr) (E.post self.now.expr) (S.pre self.now.specs) (S.post self.now.specs) }
         ensures { Gives (spec.read_specs self.now.size self.now.left (readers_at self.now.size (self.now.left - 1)) (expressions.read_expr self.now.size self.now.left (readers_at self.now.size (self.now.left - 1))) cursor.old) result cursor.new }
     {
         let before = self.constants(cursor)?;
         let kind = self.spelling(cursor)?;
         let after = self.constants(cursor)?;
-        Ok(Specs {
+        Ok(Specifiers {
             before,
             kind,
             after,

@@ -3,44 +3,45 @@ use Rattle.std.proofs.Common.{◌≡◌, ◌<◌, ℕ, ◌+◌, Bool, true, fals
 use Rattle.std.proofs.lemmas.List.{append_assoc, append-nil, length-append}
 use Rattle.std.specs.List.{list_all}
 use Rattle.c_tree.specs.Pieces.{Piece, mark, all_of}
-use Rattle.c_tree.specs.Expressions.{wants_of_specs, wants_of_tag}
-use Rattle.c_tree.specs.Grammar.{are_specs}
-use Rattle.c_tree.specs.Statements.{wants_of_statement, wants_of_block, wants_of_objects, is_block}
+use Rattle.c_tree.specs.Folds.{wants_of_specs, wants_of_tag, are_specs}
+use Rattle.c_tree.specs.StatementFolds.{wants_of_statement, wants_of_block, is_block, wants_of_part, is_part_tree}
+use Rattle.c_tree.specs.Declarations.{wants_of_objects}
 use Rattle.c_tree.specs.declared.token.Place.{Place}
 use Rattle.c_tree.specs.declared.token.Token.{Token}
 use Rattle.c_tree.specs.declared.token.TokenKind.{TokenKind}
 use Rattle.c_tree.specs.declared.token.TokenKind.TheVariants.{Word, Name, Mark}
-use Rattle.c_tree.specs.declared.expressions.Specs.{Specs}
-use Rattle.c_tree.specs.declared.expressions.Tag.{Tag}
+use Rattle.c_tree.specs.declared.expressions.Specifiers.{Specifiers}
+use Rattle.c_tree.specs.declared.expressions.TagSpecifier.{TagSpecifier}
 use Rattle.c_tree.specs.declared.statements.Block.{Block}
-use Rattle.c_tree.specs.declared.statements.Objects.{Objects}
-use Rattle.c_tree.specs.declared.statements.Part.{Part}
-use Rattle.c_tree.specs.declared.statements.Part.TheVariants as part
-use Rattle.c_tree.specs.declared.statements.Part.TheViews.{roll-Block}
+use Rattle.c_tree.specs.declared.statements.Declaration.{Declaration}
+use Rattle.c_tree.specs.declared.statements.BlockItem.{BlockItem}
+use Rattle.c_tree.specs.declared.statements.BlockItem.TheVariants as part
+use Rattle.c_tree.specs.declared.statements.BlockItem.TheViews.{roll-Block}
 use Rattle.c_tree.specs.declared.statements.Statement.{Statement}
-use Rattle.c_expr.specs.Reading.{Reader, ◌>>=◌, give, many}
-use Rattle.c_expr.specs.Tokens.{is_mark, is_spelled, is_kind, spelled_by, starts_type, type_by, type_goes_on, type_goes_by, found_by, found_in, expr_by}
+use Rattle.c_reader.specs.Reading.{Reader, ◌>>=◌, give, many}
+use Rattle.c_reader.specs.Tokens.{is_mark, is_spelled, is_kind, spelled_by, found_by, found_in}
+use Rattle.c_expr.specs.Tokens.{starts_type, type_by, type_goes_on, type_goes_by, expr_by}
 use Rattle.c_expr.specs.Levels.{readers_at}
-use Rattle.c_expr.proofs.Reader.{Language, Of}
-use Rattle.c_expr.proofs.Binding.{Both}
-use Rattle.c_expr.proofs.Giving.{Given}
-use Rattle.c_expr.proofs.Taking.{Single}
-use Rattle.c_expr.proofs.Choosing.{FirstIs, Either, this, that}
-use Rattle.c_expr.proofs.Repeating.{Several, many_reads, given_stops}
-use Rattle.c_expr.proofs.Beginning.{Begins, begins_both, begins_either}
-use Rattle.c_expr.proofs.Joining.{in_both, in_single, in_given, onto}
-use Rattle.c_expr.proofs.Listing.{all_to, all_from, list_all_map}
-use Rattle.c_expr.proofs.Spelt.{spelt, spelt_at}
+use Rattle.c_reader.proofs.Reader.{Language, Of}
+use Rattle.c_reader.proofs.Binding.{Both}
+use Rattle.c_reader.proofs.Giving.{Given}
+use Rattle.c_reader.proofs.Taking.{Single}
+use Rattle.c_reader.proofs.Choosing.{FirstIs, Either, this, that}
+use Rattle.c_reader.proofs.Repeating.{Several, many_reads, given_stops}
+use Rattle.c_reader.proofs.Beginning.{Begins, begins_both, begins_either}
+use Rattle.c_reader.proofs.Joining.{in_both, in_single, in_given, onto}
+use Rattle.c_reader.proofs.Listing.{all_to, all_from, list_all_map}
+use Rattle.c_reader.proofs.Spelt.{spelt, spelt_at}
 use Rattle.c_expr.proofs.Primaries.{first_from, prefix_all}
 use Rattle.c_expr.proofs.Typing.{SuitsType, begins_type, word_all}
 use Rattle.c_expr.proofs.Suffixes.{SpecsAt, StopsType}
 use Rattle.c_expr.proofs.Members.{some_specs}
 use Rattle.c_expr.proofs.Levels.{all_read}
 use Rattle.c_decl.specs.Bare.{tag_of}
-use Rattle.c_decl.specs.Objects.{read_objects_of}
+use Rattle.c_decl.specs.Declarations.{read_objects_of}
 use Rattle.c_decl.proofs.Baring.{bare_tag, tag_wanted, tag_grammar, tag_found, tag_is}
 use Rattle.c_decl.proofs.Marks.{step_all}
-use Rattle.c_decl.proofs.Objects.{ObjectsOf, StopsObjects, typed_to, typed_from, some_objects_of, begins_objects_of, objects_of_reads}
+use Rattle.c_decl.proofs.Declarations.{ObjectsOf, StopsObjects, typed_to, typed_from, some_objects_of, begins_objects_of, objects_of_reads}
 use Rattle.c_syntax.specs.Starts.{starts_part, part_by, statement_by, loop_by, simple_by}
 use Rattle.c_syntax.specs.Blocks.{read_part_objects, read_part_tag, read_part_behind, read_declaration, read_part, read_braces}
 use Rattle.c_syntax.proofs.ByTree.{ReadsBy, by_reads, reads_by, by_as, by_where, choose_by}
@@ -50,10 +51,10 @@ use Rattle.c_syntax.proofs.Leading.{SuitsStatement, begins_statement, statement_
 use Rattle.c_syntax.proofs.Singles.{Always, StatementAt, StopsElse}
 use Rattle.c_syntax.proofs.Steps.{Step, Anything, then_, given, spelt_then, placed_deep, begins_is, begins_spelt, begins_placed}
 use Rattle.c_syntax.proofs.Switches.{NoElse, some_several}
-use Rattle.c_syntax.proofs.TreeCases.{cases_Part, cases_Block}
-use Rattle.c_syntax.proofs.Trees.{wants_of_part, is_part_tree, wants_Part_Statement, wants_Part_Objects, wants_Part_Tag, is_Part_Statement, is_Part_Objects, is_Part_Tag, wants_Braces, is_Braces}
+use Rattle.c_tree.proofs.StatementCases.{cases_BlockItem, cases_Block}
+use Rattle.c_tree.proofs.StatementFoldsLaws.{wants_BlockItem_Statement, wants_BlockItem_Declaration, wants_BlockItem_TagSpecifier, is_BlockItem_Statement, is_BlockItem_Declaration, is_BlockItem_TagSpecifier, wants_Braces, is_Braces}
 
-abbrev pub PartAt : ℕ → Language Part
+abbrev pub PartAt : ℕ → Language BlockItem
 PartAt n = Of is_part_tree (λ p. wants_of_part p n)
 
 abbrev pub BlockAt : ℕ → Language Block
@@ -62,52 +63,52 @@ BlockAt n = Of is_block (λ b. wants_of_block b n)
 -- ---- declarations
 
 module _ (most size n left : ℕ) (level : n + left ≡ most + 1) where
-  abbrev ObjectsL : Specs → Language Part
-  ObjectsL specs = Both (ObjectsOf n specs) (λ objects. Both (Single (spelt Mark (codes ";") n)) (λ closing. Given (part.Objects objects)))
+  abbrev ObjectsL : Specifiers → Language BlockItem
+  ObjectsL specs = Both (ObjectsOf n specs) (λ objects. Both (Single (spelt Mark (codes ";") n)) (λ closing. Given (part.Declaration objects)))
 
-  abbrev TagL : Tag → Language Part
-  TagL tag = Both (Single (spelt Mark (codes ";") n)) (λ closing. Given (part.Tag tag))
+  abbrev TagL : TagSpecifier → Language BlockItem
+  TagL tag = Both (Single (spelt Mark (codes ";") n)) (λ closing. Given (part.TagSpecifier tag))
 
-  abbrev BehindL : Specs → Option Tag → Language Part
+  abbrev BehindL : Specifiers → Option TagSpecifier → Language BlockItem
   BehindL specs None = ObjectsL specs
   BehindL specs (Some tag) = Either (TagL tag) (ObjectsL specs)
 
-  abbrev DeclarationL : Language Part
+  abbrev DeclarationL : Language BlockItem
   DeclarationL = Both (SpecsAt n) (λ specs. BehindL specs (tag_of specs))
 
-  objects_step : (When : Type 0) (specs : Specs) → Step most size When (ObjectsL specs) Anything (read_part_objects size left specs)
+  objects_step : (When : Type 0) (specs : Specifiers) → Step most size When (ObjectsL specs) Anything (read_part_objects size left specs)
   unfolding read_part_objects
   objects_step When specs =
       then_ most size When (ObjectsOf n specs) _ (λ o. StopsObjects) Anything (read_objects_of size left specs) _ (record { by = λ when. by_reads (objects_of_reads most size n left level specs); some = some_objects_of n specs })
-      (λ objects. spelt_then most size Anything Mark (codes ";") n left level When _ _ (λ closing. given most size Anything When (part.Objects objects)))
-      (λ objects ps c qs ys rest is k fits stop. begins_is Mark (codes ";") n (λ closing. Given (part.Objects objects)) c qs ys rest k fits)
+      (λ objects. spelt_then most size Anything Mark (codes ";") n left level When _ _ (λ closing. given most size Anything When (part.Declaration objects)))
+      (λ objects ps c qs ys rest is k fits stop. begins_is Mark (codes ";") n (λ closing. Given (part.Declaration objects)) c qs ys rest k fits)
 
-  tag_step : (When : Type 0) (tag : Tag) → Step most size When (TagL tag) Anything (read_part_tag left tag)
+  tag_step : (When : Type 0) (tag : TagSpecifier) → Step most size When (TagL tag) Anything (read_part_tag left tag)
   unfolding read_part_tag
-  tag_step When tag = spelt_then most size Anything Mark (codes ";") n left level When _ _ (λ closing. given most size Anything When (part.Tag tag))
+  tag_step When tag = spelt_then most size Anything Mark (codes ";") n left level When _ _ (λ closing. given most size Anything When (part.TagSpecifier tag))
 
-  objects_begin : (specs : Specs) (by : TokenKind → List ℕ → Bool) (b : Bool) → by Mark (codes "*") ≡ b → ((text : List ℕ) → by Name text ≡ b) → Begins (ObjectsL specs) (λ w. by w.kind w.text) b
+  objects_begin : (specs : Specifiers) (by : TokenKind → List ℕ → Bool) (b : Bool) → by Mark (codes "*") ≡ b → ((text : List ℕ) → by Name text ≡ b) → Begins (ObjectsL specs) (λ w. by w.kind w.text) b
   objects_begin specs by b star name = begins_both _ _ (λ w. by w.kind w.text) b (begins_objects_of n specs by b star name)
 
-  no_semicolon : (specs : Specs) → Begins (ObjectsL specs) (is_mark (codes ";")) false
+  no_semicolon : (specs : Specifiers) → Begins (ObjectsL specs) (is_mark (codes ";")) false
   unfolding spelled_by is_spelled is_kind
   no_semicolon specs = objects_begin specs (spelled_by Mark (codes ";")) false refl (λ t. refl)
 
-  behind_step : (When : Type 0) (specs : Specs) (tag : Option Tag) → Step most size When (BehindL specs tag) Anything (read_part_behind size left specs tag)
+  behind_step : (When : Type 0) (specs : Specifiers) (tag : Option TagSpecifier) → Step most size When (BehindL specs tag) Anything (read_part_behind size left specs tag)
   unfolding read_part_behind
   behind_step When specs None = objects_step When specs
   behind_step When specs (Some tag) = record {
     by = λ when. choose_by (TagL tag) (ObjectsL specs) most size Anything (is_mark (codes ";")) (read_part_tag left tag) (read_part_objects size left specs) ((tag_step When tag).by when) ((objects_step When specs).by when)
-        (λ p ps front rest is fits stop. begins_is Mark (codes ";") n (λ closing. Given (part.Tag tag)) p ps front rest is fits)
+        (λ p ps front rest is fits stop. begins_is Mark (codes ";") n (λ closing. Given (part.TagSpecifier tag)) p ps front rest is fits)
         (λ p ps front rest is fits stop. no_semicolon specs p ps front rest is fits);
     some = let x = (objects_step When specs).some in (x.0, (x.1.0, that x.1.1));
   }
 
   -- no type goes on with what stands behind it
-  behind_stops : (specs : Specs) (tag : Option Tag) → Begins (BehindL specs tag) type_goes_on false
+  behind_stops : (specs : Specifiers) (tag : Option TagSpecifier) → Begins (BehindL specs tag) type_goes_on false
   unfolding type_goes_by spelled_by found_by found_in
   behind_stops specs None = objects_begin specs type_goes_by false refl (λ t. refl)
-  behind_stops specs (Some tag) = begins_either (TagL tag) (ObjectsL specs) type_goes_on false (begins_spelt Mark (codes ";") n (λ closing. Given (part.Tag tag)) type_goes_by false refl) (objects_begin specs type_goes_by false refl (λ t. refl))
+  behind_stops specs (Some tag) = begins_either (TagL tag) (ObjectsL specs) type_goes_on false (begins_spelt Mark (codes ";") n (λ closing. Given (part.TagSpecifier tag)) type_goes_by false refl) (objects_begin specs type_goes_by false refl (λ t. refl))
 
   pub declaration_step : (When : Type 0) → Step most size When DeclarationL Anything (read_declaration size left)
   unfolding read_declaration
@@ -118,60 +119,60 @@ module _ (most size n left : ℕ) (level : n + left ≡ most + 1) where
 
   -- ---- as trees
 
-  objects_to : (p : Part) (ps qs : List Piece) (specs : Specs) (rs : List Piece) → SpecsAt n specs rs → ObjectsL specs p qs → ps ≡ rs ++ qs → PartAt n p ps
+  objects_to : (p : BlockItem) (ps qs : List Piece) (specs : Specifiers) (rs : List Piece) → SpecsAt n specs rs → ObjectsL specs p qs → ps ≡ rs ++ qs → PartAt n p ps
   objects_to p ps qs specs rs is b whole =
       let all = typed_to n b.first (rs ++ b.pieces1) (in_both _ _ _ _ _ specs is b.left) in
       record {
-        grammar = ap is_part_tree b.right.right.tree_is ∙ is_Part_Objects b.first ∙ all.grammar;
+        grammar = ap is_part_tree b.right.right.tree_is ∙ is_BlockItem_Declaration b.first ∙ all.grammar;
         wants = whole ∙ ap (λ u. rs ++ u) (onto b.whole refl (onto b.right.whole b.right.left.one b.right.right.none)) ∙ sym (append_assoc rs b.pieces1 (spelt Mark (codes ";") n tt ∷ [])) ∙ ap (λ u. u ++ (spelt Mark (codes ";") n tt ∷ [])) all.wants
-            ∙ sym (ap (λ f. f n) (wants_Part_Objects b.first)) ∙ ap (λ u. wants_of_part u n) (sym b.right.right.tree_is);
+            ∙ sym (ap (λ f. f n) (wants_BlockItem_Declaration b.first)) ∙ ap (λ u. wants_of_part u n) (sym b.right.right.tree_is);
       }
 
-  tag_to : (p : Part) (ps qs : List Piece) (specs : Specs) (tag : Tag) (rs : List Piece) → tag_of specs ≡ Some tag → SpecsAt n specs rs → TagL tag p qs → ps ≡ rs ++ qs → PartAt n p ps
+  tag_to : (p : BlockItem) (ps qs : List Piece) (specs : Specifiers) (tag : TagSpecifier) (rs : List Piece) → tag_of specs ≡ Some tag → SpecsAt n specs rs → TagL tag p qs → ps ≡ rs ++ qs → PartAt n p ps
   tag_to p ps qs specs tag rs found is b whole =
       let bare : specs ≡ bare_tag tag = tag_is specs tag found in
       record {
-        grammar = ap is_part_tree b.right.tree_is ∙ is_Part_Tag tag ∙ sym (tag_grammar tag) ∙ ap are_specs (sym bare) ∙ is.grammar;
+        grammar = ap is_part_tree b.right.tree_is ∙ is_BlockItem_TagSpecifier tag ∙ sym (tag_grammar tag) ∙ ap are_specs (sym bare) ∙ is.grammar;
         wants = whole ∙ ap (λ u. u ++ qs) (is.wants ∙ ap (λ u. wants_of_specs u n) bare ∙ tag_wanted tag n) ∙ ap (λ u. wants_of_tag tag n ++ u) (onto b.whole b.left.one b.right.none)
-            ∙ sym (ap (λ f. f n) (wants_Part_Tag tag)) ∙ ap (λ u. wants_of_part u n) (sym b.right.tree_is);
+            ∙ sym (ap (λ f. f n) (wants_BlockItem_TagSpecifier tag)) ∙ ap (λ u. wants_of_part u n) (sym b.right.tree_is);
       }
 
-  behind_to : (p : Part) (ps qs : List Piece) (specs : Specs) (rs : List Piece) (tag : Option Tag) → tag_of specs ≡ tag → SpecsAt n specs rs → BehindL specs tag p qs → ps ≡ rs ++ qs → PartAt n p ps
+  behind_to : (p : BlockItem) (ps qs : List Piece) (specs : Specifiers) (rs : List Piece) (tag : Option TagSpecifier) → tag_of specs ≡ tag → SpecsAt n specs rs → BehindL specs tag p qs → ps ≡ rs ++ qs → PartAt n p ps
   behind_to p ps qs specs rs None found is b whole = objects_to p ps qs specs rs is b whole
   behind_to p ps qs specs rs (Some tag) found is (this b) whole = tag_to p ps qs specs tag rs found is b whole
   behind_to p ps qs specs rs (Some tag) found is (that b) whole = objects_to p ps qs specs rs is b whole
 
-  pub declaration_to : (p : Part) (ps : List Piece) → DeclarationL p ps → PartAt n p ps
+  pub declaration_to : (p : BlockItem) (ps : List Piece) → DeclarationL p ps → PartAt n p ps
   declaration_to p ps b = behind_to p ps b.pieces2 b.first b.pieces1 (tag_of b.first) refl b.left b.right b.whole
 
-  objects_behind : (specs : Specs) (tag : Option Tag) (p : Part) (qs : List Piece) → ObjectsL specs p qs → BehindL specs tag p qs
+  objects_behind : (specs : Specifiers) (tag : Option TagSpecifier) (p : BlockItem) (qs : List Piece) → ObjectsL specs p qs → BehindL specs tag p qs
   objects_behind specs None p qs b = b
   objects_behind specs (Some tag) p qs b = that b
 
-  pub objects_from : (objects : Objects) (ps : List Piece) → PartAt n (part.Objects objects) ps → DeclarationL (part.Objects objects) ps
+  pub objects_from : (objects : Declaration) (ps : List Piece) → PartAt n (part.Declaration objects) ps → DeclarationL (part.Declaration objects) ps
   objects_from objects ps is =
-      let t = typed_from n objects (wants_of_objects objects n) (record { grammar = sym (is_Part_Objects objects) ∙ is.grammar; wants = refl }) in
+      let t = typed_from n objects (wants_of_objects objects n) (record { grammar = sym (is_BlockItem_Declaration objects) ∙ is.grammar; wants = refl }) in
       record {
         first = t.first;
         pieces1 = t.pieces1;
         pieces2 = t.pieces2 ++ ((spelt Mark (codes ";") n tt ∷ []) ++ []);
         left = t.left;
-        right = objects_behind t.first (tag_of t.first) (part.Objects objects) _ (in_both _ _ _ _ _ objects t.right (in_both _ _ _ _ _ tt (in_single (spelt Mark (codes ";") n) tt) (in_given (part.Objects objects))));
-        whole = is.wants ∙ ap (λ f. f n) (wants_Part_Objects objects) ∙ ap (λ u. u ++ (spelt Mark (codes ";") n tt ∷ [])) t.whole ∙ append_assoc t.pieces1 t.pieces2 (spelt Mark (codes ";") n tt ∷ []);
+        right = objects_behind t.first (tag_of t.first) (part.Declaration objects) _ (in_both _ _ _ _ _ objects t.right (in_both _ _ _ _ _ tt (in_single (spelt Mark (codes ";") n) tt) (in_given (part.Declaration objects))));
+        whole = is.wants ∙ ap (λ f. f n) (wants_BlockItem_Declaration objects) ∙ ap (λ u. u ++ (spelt Mark (codes ";") n tt ∷ [])) t.whole ∙ append_assoc t.pieces1 t.pieces2 (spelt Mark (codes ";") n tt ∷ []);
       }
 
-  tag_behind : (tag : Tag) → BehindL (bare_tag tag) (tag_of (bare_tag tag)) (part.Tag tag) ((spelt Mark (codes ";") n tt ∷ []) ++ [])
-  tag_behind tag = subst (λ u. BehindL (bare_tag tag) u (part.Tag tag) ((spelt Mark (codes ";") n tt ∷ []) ++ [])) (sym (tag_found tag)) (this (in_both _ _ _ _ _ tt (in_single (spelt Mark (codes ";") n) tt) (in_given (part.Tag tag))))
+  tag_behind : (tag : TagSpecifier) → BehindL (bare_tag tag) (tag_of (bare_tag tag)) (part.TagSpecifier tag) ((spelt Mark (codes ";") n tt ∷ []) ++ [])
+  tag_behind tag = subst (λ u. BehindL (bare_tag tag) u (part.TagSpecifier tag) ((spelt Mark (codes ";") n tt ∷ []) ++ [])) (sym (tag_found tag)) (this (in_both _ _ _ _ _ tt (in_single (spelt Mark (codes ";") n) tt) (in_given (part.TagSpecifier tag))))
 
-  pub tag_from : (tag : Tag) (ps : List Piece) → PartAt n (part.Tag tag) ps → DeclarationL (part.Tag tag) ps
+  pub tag_from : (tag : TagSpecifier) (ps : List Piece) → PartAt n (part.TagSpecifier tag) ps → DeclarationL (part.TagSpecifier tag) ps
   tag_from tag ps is =
       record {
         first = bare_tag tag;
         pieces1 = wants_of_specs (bare_tag tag) n;
         pieces2 = (spelt Mark (codes ";") n tt ∷ []) ++ [];
-        left = record { grammar = tag_grammar tag ∙ sym (is_Part_Tag tag) ∙ is.grammar; wants = refl };
+        left = record { grammar = tag_grammar tag ∙ sym (is_BlockItem_TagSpecifier tag) ∙ is.grammar; wants = refl };
         right = tag_behind tag;
-        whole = is.wants ∙ ap (λ f. f n) (wants_Part_Tag tag) ∙ ap (λ u. u ++ (spelt Mark (codes ";") n tt ∷ [])) (sym (tag_wanted tag n));
+        whole = is.wants ∙ ap (λ f. f n) (wants_BlockItem_TagSpecifier tag) ∙ ap (λ u. u ++ (spelt Mark (codes ";") n tt ∷ [])) (sym (tag_wanted tag n));
       }
 
 -- ---- parts, and blocks of them
@@ -221,13 +222,13 @@ unfolding type_by spelled_by found_by found_in
 suits_type_type = record { constant = refl; word = word_all type_by true refl refl refl refl refl refl refl refl refl refl refl refl refl refl refl refl refl; struct_ = refl; enum_ = refl; type_name = λ t. refl }
 
 module _ (most size n left : ℕ) (level : (n + 1) + left ≡ most + 1) (read : Reader Statement) (I : 0 < left → ReadsBy (StatementAt (n + 1)) most size StopsElse read) where
-  abbrev Declared : Language Part
+  abbrev Declared : Language BlockItem
   Declared = DeclarationL most size (n + 1) left level
 
-  abbrev StatedL : Language Part
+  abbrev StatedL : Language BlockItem
   StatedL = Both (StatementAt (n + 1)) (λ value. Given (part.Statement value))
 
-  abbrev BeforeNoElse : Part → List Token → Type 0
+  abbrev BeforeNoElse : BlockItem → List Token → Type 0
   BeforeNoElse p = NoElse
 
   stated_step : Step most size (0 < left) StatedL BeforeNoElse (read >>= λ value. give (part.Statement value))
@@ -236,21 +237,21 @@ module _ (most size n left : ℕ) (level : (n + 1) + left ≡ most + 1) (read : 
       (λ value. given most size BeforeNoElse (0 < left) (part.Statement value))
       (λ value ps c qs ys rest is k fits stop open_. given_stops (part.Statement value) c qs ys rest NoElse k fits stop)
 
-  part_to : (p : Part) (ps : List Piece) → Either Declared StatedL p ps → PartAt (n + 1) p ps
+  part_to : (p : BlockItem) (ps : List Piece) → Either Declared StatedL p ps → PartAt (n + 1) p ps
   part_to p ps (this b) = declaration_to most size (n + 1) left level p ps b
   part_to p ps (that b) =
       record {
-        grammar = ap is_part_tree b.right.tree_is ∙ is_Part_Statement b.first ∙ b.left.grammar;
-        wants = onto b.whole b.left.wants b.right.none ∙ append-nil (wants_of_statement b.first (n + 1)) ∙ sym (ap (λ f. f (n + 1)) (wants_Part_Statement b.first)) ∙ ap (λ u. wants_of_part u (n + 1)) (sym b.right.tree_is);
+        grammar = ap is_part_tree b.right.tree_is ∙ is_BlockItem_Statement b.first ∙ b.left.grammar;
+        wants = onto b.whole b.left.wants b.right.none ∙ append-nil (wants_of_statement b.first (n + 1)) ∙ sym (ap (λ f. f (n + 1)) (wants_BlockItem_Statement b.first)) ∙ ap (λ u. wants_of_part u (n + 1)) (sym b.right.tree_is);
       }
 
   stated_from : (value : Statement) (ps : List Piece) → PartAt (n + 1) (part.Statement value) ps → StatedL (part.Statement value) ps
   stated_from value ps is =
-      subst (λ u. StatedL (part.Statement value) u) (append-nil (wants_of_statement value (n + 1)) ∙ sym (ap (λ f. f (n + 1)) (wants_Part_Statement value)) ∙ sym is.wants)
-      (in_both _ _ _ _ _ value (record { grammar = sym (is_Part_Statement value) ∙ is.grammar; wants = refl }) (in_given (part.Statement value)))
+      subst (λ u. StatedL (part.Statement value) u) (append-nil (wants_of_statement value (n + 1)) ∙ sym (ap (λ f. f (n + 1)) (wants_BlockItem_Statement value)) ∙ sym is.wants)
+      (in_both _ _ _ _ _ value (record { grammar = sym (is_BlockItem_Statement value) ∙ is.grammar; wants = refl }) (in_given (part.Statement value)))
 
-  part_back : (p : Part) (ps : List Piece) → PartAt (n + 1) p ps → Either Declared StatedL p ps
-  part_back = cases_Part (λ p. (ps : List Piece) → PartAt (n + 1) p ps → Either Declared StatedL p ps)
+  part_back : (p : BlockItem) (ps : List Piece) → PartAt (n + 1) p ps → Either Declared StatedL p ps
+  part_back = cases_BlockItem (λ p. (ps : List Piece) → PartAt (n + 1) p ps → Either Declared StatedL p ps)
       (λ value ps is. that (stated_from value ps is))
       (λ objects ps is. this (objects_from most size (n + 1) left level objects ps is))
       (λ tag ps is. this (tag_from most size (n + 1) left level tag ps is))
@@ -273,11 +274,11 @@ module _ (most size n left : ℕ) (level : (n + 1) + left ≡ most + 1) (read : 
   part_begins p ps front rest is fits =
       begins_either Declared StatedL starts_part true (declared_begins part_by true suits_type_part) (begins_both (StatementAt (n + 1)) _ starts_part true (begins_statement part_by true suits_part (n + 1))) p ps front rest (part_back p ps is) fits
 
-  part_some : (p : Part) (ps : List Piece) → PartAt (n + 1) p ps → 0 < length ps
-  part_some = cases_Part (λ p. (ps : List Piece) → PartAt (n + 1) p ps → 0 < length ps)
-      (λ value ps is. statement_some part_by true suits_part (n + 1) value ps (record { grammar = sym (is_Part_Statement value) ∙ is.grammar; wants = is.wants ∙ ap (λ f. f (n + 1)) (wants_Part_Statement value) }))
-      (λ objects ps is. omega (arith, ap length (is.wants ∙ ap (λ f. f (n + 1)) (wants_Part_Objects objects)), length-append (wants_of_objects objects (n + 1)) (mark (codes ";") (n + 1))))
-      (λ tag ps is. omega (arith, ap length (is.wants ∙ ap (λ f. f (n + 1)) (wants_Part_Tag tag)), length-append (wants_of_tag tag (n + 1)) (mark (codes ";") (n + 1))))
+  part_some : (p : BlockItem) (ps : List Piece) → PartAt (n + 1) p ps → 0 < length ps
+  part_some = cases_BlockItem (λ p. (ps : List Piece) → PartAt (n + 1) p ps → 0 < length ps)
+      (λ value ps is. statement_some part_by true suits_part (n + 1) value ps (record { grammar = sym (is_BlockItem_Statement value) ∙ is.grammar; wants = is.wants ∙ ap (λ f. f (n + 1)) (wants_BlockItem_Statement value) }))
+      (λ objects ps is. omega (arith, ap length (is.wants ∙ ap (λ f. f (n + 1)) (wants_BlockItem_Declaration objects)), length-append (wants_of_objects objects (n + 1)) (mark (codes ";") (n + 1))))
+      (λ tag ps is. omega (arith, ap length (is.wants ∙ ap (λ f. f (n + 1)) (wants_BlockItem_TagSpecifier tag)), length-append (wants_of_tag tag (n + 1)) (mark (codes ";") (n + 1))))
 
   abbrev Closed : List Token → Type 0
   Closed = FirstIs (is_mark (codes "}")) true
@@ -300,7 +301,7 @@ module _ (most size n left : ℕ) (level : (n + 1) + left ≡ most + 1) (read : 
     some = some_several (PartAt (n + 1));
   }
 
-  abbrev made : Place → List Part → Block
+  abbrev made : Place → List BlockItem → Block
   made place parts = roll-Block (record { place = place; parts = parts })
 
   abbrev BlockL : Language Block
@@ -314,10 +315,10 @@ module _ (most size n left : ℕ) (level : (n + 1) + left ≡ most + 1) (read : 
       (λ parts. spelt_then most size Anything Mark (codes "}") (n + 1) left level (0 < left) _ _ (λ closing. given most size Anything (0 < left) (made place parts)))
       (λ parts ps c qs ys rest is k fits stop. begins_is Mark (codes "}") (n + 1) (λ closing. Given (made place parts)) c qs ys rest k fits))
 
-  block_flat : (place : Place) (parts : List Part) → (spelt_at Mark (codes "{") (n + 1) place ∷ []) ++ (all_of (map wants_of_part parts) (n + 1) ++ ((spelt Mark (codes "}") (n + 1) tt ∷ []) ++ [])) ≡ wants_of_block (made place parts) n
+  block_flat : (place : Place) (parts : List BlockItem) → (spelt_at Mark (codes "{") (n + 1) place ∷ []) ++ (all_of (map wants_of_part parts) (n + 1) ++ ((spelt Mark (codes "}") (n + 1) tt ∷ []) ++ [])) ≡ wants_of_block (made place parts) n
   block_flat place parts = sym (ap (λ f. f n) (wants_Braces place parts))
 
-  block_ok : (place : Place) (parts : List Part) → is_block (made place parts) ≡ list_all is_part_tree parts
+  block_ok : (place : Place) (parts : List BlockItem) → is_block (made place parts) ≡ list_all is_part_tree parts
   block_ok place parts = is_Braces place parts ∙ list_all_map is_part_tree (λ u. u) parts
 
   block_to : (t : Block) (ps : List Piece) → BlockL t ps → BlockAt n t ps

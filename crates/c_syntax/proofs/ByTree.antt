@@ -3,12 +3,12 @@ use Rattle.std.proofs.Common.{◌≡◌, ◌≤◌, inl, inr, ℕ, Bool, true, f
 use Rattle.std.proofs.lemmas.List.{append_assoc}
 use Rattle.c_tree.specs.Pieces.{Piece, Fits}
 use Rattle.c_tree.specs.declared.token.Token.{Token}
-use Rattle.c_expr.specs.Reading.{Answer, Reader, ◌>>=◌, after, choose}
-use Rattle.c_expr.specs.Reading as reading
-use Rattle.c_expr.proofs.Reader.{Language, Found, Reads}
-use Rattle.c_expr.proofs.Giving.{reads_as, reads_where, reads_same}
-use Rattle.c_expr.proofs.Binding.{Both, fits_part, shallow_left, shallow_right, shorter, bind_reads}
-use Rattle.c_expr.proofs.Choosing.{Either, this, that, FirstIs, choose_reads}
+use Rattle.c_reader.specs.Reading.{Answer, Reader, ◌>>=◌, after, choose}
+use Rattle.c_reader.specs.Reading as reading
+use Rattle.c_reader.proofs.Reader.{Language, Found, Reads}
+use Rattle.c_reader.proofs.Giving.{reads_as, reads_where, reads_same}
+use Rattle.c_reader.proofs.Binding.{Both, fits_part, shallow_left, shallow_right, shorter, bind_reads}
+use Rattle.c_reader.proofs.Choosing.{Either, this, that, FirstIs, choose_reads}
 
 abbrev pub Never : List Token → Type 0
 Never rest = ⊥

@@ -2,24 +2,24 @@
 use Rattle.std.proofs.Common.{◌≡◌, ℕ, ◌+◌, true, false, List, [], ◌∷◌, ◌++◌, Option, Some, None, option_map, refl, sym, ap, ◌∙◌, subst, arith, codes}
 use Rattle.std.proofs.lemmas.List.{append-nil}
 use Rattle.c_tree.specs.Pieces.{Piece, mark, optional}
-use Rattle.c_tree.specs.Expressions.{wants_of_expr}
-use Rattle.c_tree.specs.Grammar.{binds}
+use Rattle.c_tree.specs.Folds.{wants_of_expr, binds}
 use Rattle.c_tree.specs.Statements.{is_condition}
 use Rattle.c_tree.specs.declared.token.Token.{Token}
 use Rattle.c_tree.specs.declared.token.TokenKind.TheVariants.{Mark}
 use Rattle.c_tree.specs.declared.expressions.Expr.{Expr}
-use Rattle.c_expr.specs.Reading.{Reader, ◌>>=◌, give}
-use Rattle.c_expr.specs.Tokens.{is_mark, is_spelled, is_kind, spelled_by, goes_on, goes_by, suffix_by, found_by, found_in}
+use Rattle.c_reader.specs.Reading.{Reader, ◌>>=◌, give}
+use Rattle.c_reader.specs.Tokens.{is_mark, is_spelled, is_kind, spelled_by, found_by, found_in}
+use Rattle.c_expr.specs.Tokens.{goes_on, goes_by, suffix_by}
 use Rattle.c_expr.specs.Levels.{readers_at}
-use Rattle.c_expr.proofs.Reader.{Language, Of}
-use Rattle.c_expr.proofs.Binding.{Both}
-use Rattle.c_expr.proofs.Giving.{Given}
-use Rattle.c_expr.proofs.Taking.{Single}
-use Rattle.c_expr.proofs.Choosing.{FirstIs, Either, this, that}
-use Rattle.c_expr.proofs.Repeating.{given_stops}
-use Rattle.c_expr.proofs.Beginning.{Begins, begins_both}
-use Rattle.c_expr.proofs.Joining.{in_both, in_single, in_given, onto, join3}
-use Rattle.c_expr.proofs.Spelt.{spelt}
+use Rattle.c_reader.proofs.Reader.{Language, Of}
+use Rattle.c_reader.proofs.Binding.{Both}
+use Rattle.c_reader.proofs.Giving.{Given}
+use Rattle.c_reader.proofs.Taking.{Single}
+use Rattle.c_reader.proofs.Choosing.{FirstIs, Either, this, that}
+use Rattle.c_reader.proofs.Repeating.{given_stops}
+use Rattle.c_reader.proofs.Beginning.{Begins, begins_both}
+use Rattle.c_reader.proofs.Joining.{in_both, in_single, in_given, onto, join3}
+use Rattle.c_reader.proofs.Spelt.{spelt}
 use Rattle.c_expr.proofs.Starting.{Suits, begins_at}
 use Rattle.c_expr.proofs.Suffixes.{At, Stops, some_at}
 use Rattle.c_expr.proofs.Primaries.{first_from}

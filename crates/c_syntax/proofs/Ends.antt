@@ -3,10 +3,10 @@ use Rattle.std.proofs.Common.{◌≡◌, ◌⊎◌, inl, inr, ℕ, Bool, true, f
 use Rattle.c_tree.specs.declared.token.Token.{Token}
 use Rattle.c_tree.specs.declared.token.TokenKind.{TokenKind}
 use Rattle.c_tree.specs.declared.token.TokenKind.TheVariants.{Word, Mark}
-use Rattle.c_expr.specs.Tokens.{is_spelled, is_kind, spelled_by}
-use Rattle.c_expr.proofs.Choosing.{FirstIs}
-use Rattle.c_expr.proofs.Spelt.{by_text, spelled_is}
-use Rattle.c_expr.proofs.Truths.{not_true, or_cases}
+use Rattle.c_reader.specs.Tokens.{is_spelled, is_kind, spelled_by}
+use Rattle.c_reader.proofs.Choosing.{FirstIs}
+use Rattle.c_reader.proofs.Spelt.{by_text, spelled_is}
+use Rattle.c_reader.proofs.Truths.{not_true, or_cases}
 use Rattle.c_syntax.specs.Starts.{label_by}
 
 -- a token that passes a test that some spelling doesn't pass is not spelled so

@@ -1,26 +1,27 @@
 -- What the reader of programs answers, in terms of the programs that begin with some tokens.
-use Rattle.std.proofs.Common.{◌≡◌, ◌≤◌, inl, inr, ℕ, suc, ◌+◌, true, List, [], ◌∷◌, ◌++◌, length, None, refl, sym, ap, ◌∙◌, subst, arith}
+use Rattle.std.proofs.Common.{◌≡◌, ◌≤◌, inl, inr, ℕ, suc, ◌+◌, true, List, [], ◌∷◌, ◌++◌, length, Some, refl, sym, ap, ◌∙◌, subst, arith}
 use Rattle.std.proofs.lemmas.List.{append_assoc, append-nil}
 use Rattle.c_tree.specs.Pieces.{Piece, spelled, IsWanted, Takes, Fits}
-use Rattle.c_tree.specs.Programs.{wants_of_program}
+use Rattle.c_tree.specs.Programs.{wants_of_program, ProgramTree}
 use Rattle.c_tree.specs.TokenLists.{is_closed, is_inner, is_inner_of, is_end_kind}
+use Rattle.c_tree.specs.declared.token.Place.{Place}
 use Rattle.c_tree.specs.declared.token.Token.{Token}
 use Rattle.c_tree.specs.declared.token.TokenKind.{TokenKind}
 use Rattle.c_tree.specs.declared.token.TokenKind.TheVariants.{End}
-use Rattle.c_tree.specs.declared.programs.Program.{Program}
-use Rattle.c_expr.specs.Reading as reading
-use Rattle.c_expr.proofs.Reader.{Shallow, Found, Reads}
-use Rattle.c_expr.proofs.Binding.{fits_part}
+use Rattle.c_reader.specs.Reading as reading
+use Rattle.c_reader.proofs.Reader.{Shallow, Found, Reads}
+use Rattle.c_reader.proofs.Binding.{fits_part}
 use Rattle.c_expr.proofs.Oneness.{deepest, shallow_more, all_shallow, one_of}
-use Rattle.c_expr.proofs.Truths.{not_true, and_left, and_right}
-use Rattle.c_expr.proofs.Probing.{BeginsOf, begins_less, none_begins}
-use Rattle.c_expr.proofs.Probing as probing
-use Rattle.c_expr.proofs.Shrinking.{Like}
+use Rattle.c_reader.proofs.Truths.{not_true, and_left, and_right}
+use Rattle.c_reader.proofs.Probing.{begins_less, none_begins}
+use Rattle.c_reader.proofs.Probing as probing
+use Rattle.c_reader.proofs.Shrinking.{Like}
 use Rattle.c_expr.proofs.Suffixes.{Any}
 use Rattle.c_syntax.specs.Items.{read_program}
-use Rattle.c_expr.specs.Runs.{most_nesting, AreShallow}
-use Rattle.c_syntax.specs.Programs.{pieces_of, IsSpelled, Begins, IsFirstFault, IsFirstDeep}
-use Rattle.c_syntax.proofs.Programming.{ProgramAt, program_reads}
+use Rattle.c_reader.specs.Depths.{most_nesting, AreShallow}
+use Rattle.c_reader.specs.Firsts.{BeginsOf, IsFirstFault, IsFirstDeep}
+use Rattle.c_syntax.specs.Programs.{pieces_of, IsSpelled, ProgramAt}
+use Rattle.c_syntax.proofs.Programming.{program_reads}
 use Rattle.c_syntax.proofs.Sizing.{program_like}
 
 to_shallow : (ps : List Piece) → Shallow most_nesting ps → AreShallow ps
@@ -32,12 +33,6 @@ from_shallow : (ps : List Piece) → AreShallow ps → Shallow most_nesting ps
 unfolding Shallow AreShallow
 from_shallow [] s = tt
 from_shallow (p ∷ ps) s = (s.0, from_shallow ps s.1)
-
-to_begins : (ts : List Token) → Begins ts → BeginsOf ProgramAt ts
-to_begins ts b = record { tree = b.program; pieces = b.pieces; missing = b.missing; spelled_ = record { grammar = b.grammar; ending = b.ending; wants = sym b.wants }; fits = b.fits }
-
-from_begins : (ts : List Token) → BeginsOf ProgramAt ts → Begins ts
-from_begins ts b = record { program = b.tree; ending = b.spelled_.ending; grammar = b.spelled_.grammar; pieces = b.pieces; missing = b.missing; wants = sym b.spelled_.wants; fits = b.fits }
 
 abbrev pub reads : (size : ℕ) → Reads ProgramAt most_nesting size Any (read_program size 201)
 reads size = program_reads most_nesting size 201 refl
@@ -64,25 +59,25 @@ record Ended (ts : List Token) : Type 0 where
   pub is : is_end_kind end.kind ≡ true
   pub whole : ts ≡ before ++ end ∷ []
 
-one_left : (text : List ℕ) (ys : List Token) → Fits (record { nesting = 0; place = None; want = spelled End text } ∷ []) ys → (w : Token) × ((ys ≡ w ∷ []) × (is_end_kind w.kind ≡ true))
+pub one_left : (place : Place) (text : List ℕ) (ys : List Token) → Fits (record { nesting = 0; place = Some place; want = spelled End text } ∷ []) ys → (w : Token) × ((ys ≡ w ∷ []) × (is_end_kind w.kind ≡ true))
 unfolding Fits IsWanted
-one_left text [] fits = absurd fits
-one_left text (y ∷ []) fits = (y, (refl, ap is_end_kind fits.0.0.0))
-one_left text (y ∷ z ∷ ys) fits = absurd fits.1
+one_left place text [] fits = absurd fits
+one_left place text (y ∷ []) fits = (y, (refl, ap is_end_kind fits.0.0.0))
+one_left place text (y ∷ z ∷ ys) fits = absurd fits.1
 
-ended : (p : Program) (text : List ℕ) (ts : List Token) → Fits (pieces_of p text) ts → Ended ts
+ended : (p : ProgramTree) (text : List ℕ) (ts : List Token) → Fits (pieces_of p text) ts → Ended ts
 ended p text ts fits =
     let parted = fits_part (wants_of_program p) _ ts fits in
-    let last = one_left text parted.behind parted.right in
+    let last = one_left p.end text parted.behind parted.right in
     record { before = parted.front; end = last.0; is = last.1.1; whole = parted.whole ∙ ap (λ u. parted.front ++ u) last.1.0 }
 
 -- ---- the answers
 
 module _ (size : ℕ) (ts : List Token) (small : length ts ≤ size) where
-  abbrev read : reading.Answer Program
+  abbrev read : reading.Answer ProgramTree
   read = read_program size 201 ts
 
-  pub first_fault_with : (w : Token) (behind : List Token) → read ≡ reading.bad (w ∷ behind) → (before : List Token) × (IsFirstFault ts before w × (ts ≡ before ++ w ∷ behind))
+  pub first_fault_with : (w : Token) (behind : List Token) → read ≡ reading.bad (w ∷ behind) → (before : List Token) × (IsFirstFault ProgramAt ts before w × (ts ≡ before ++ w ∷ behind))
   first_fault_with w behind h =
       let b = (reads size).bad ts (w ∷ behind) h in (
         b.front,
@@ -90,15 +85,15 @@ module _ (size : ℕ) (ts : List Token) (small : length ts ≤ size) where
           record {
             behind = behind;
             whole = b.whole;
-            begins = record { program = b.tree; ending = b.spelled.ending; grammar = b.spelled.grammar; pieces = b.pieces; missing = b.missing; wants = sym b.spelled.wants; fits = b.fits };
+            begins = record { tree = b.tree; pieces = b.pieces; missing = b.missing; spelled_ = b.spelled; fits = b.fits };
             shallow = to_shallow b.pieces b.shallow;
-            none = λ more. none_begins ProgramAt most_nesting Any (λ k. read_program k 201) reads like [] tt size b.front behind w (subst (λ u. length u ≤ size) b.whole small) (ap (read_program size 201) (sym b.whole) ∙ h) (to_begins (b.front ++ w ∷ []) more);
+            none = λ more. none_begins ProgramAt most_nesting Any (λ k. read_program k 201) reads like [] tt size b.front behind w (subst (λ u. length u ≤ size) b.whole small) (ap (read_program size 201) (sym b.whole) ∙ h) more;
           },
           b.whole,
         ),
       )
 
-  pub first_deep : (w : Token) (behind : List Token) → read ≡ reading.deep (w ∷ behind) → (before : List Token) × IsFirstDeep ts before w
+  pub first_deep : (w : Token) (behind : List Token) → read ≡ reading.deep (w ∷ behind) → (before : List Token) × IsFirstDeep ProgramAt ts before w
   first_deep w behind h =
       let d = (reads size).deep ts (w ∷ behind) h in
       let same : d.token ≡ w = cc in (
@@ -106,13 +101,11 @@ module _ (size : ℕ) (ts : List Token) (small : length ts ≤ size) where
         record {
           behind = behind;
           whole = d.whole;
-          program = d.tree;
-          ending = d.spelled.ending;
-          grammar = d.spelled.grammar;
+          tree = d.tree;
           pieces = d.pieces;
           piece = d.piece;
           missing = d.missing;
-          wants = sym d.spelled.wants;
+          spelled_ = d.spelled;
           fits = d.fits;
           takes = subst (λ u. Takes d.piece u) same d.takes;
           shallow = to_shallow d.pieces d.shallow;
@@ -121,7 +114,7 @@ module _ (size : ℕ) (ts : List Token) (small : length ts ≤ size) where
       )
 
   -- what is read is spelled, to the end
-  pub spelled_whole : is_closed ts ≡ true → (p : Program) (rest : List Token) → read ≡ reading.good p rest → (rest ≡ []) × ((s : IsSpelled ts p) × AreShallow (pieces_of p s.ending))
+  pub spelled_whole : is_closed ts ≡ true → (p : ProgramTree) (rest : List Token) → read ≡ reading.good p rest → (rest ≡ []) × ((s : IsSpelled ts p) × AreShallow (pieces_of p s.ending))
   spelled_whole closed p rest h =
       let g = (reads size).good ts p rest h in
       let of_p : Fits (pieces_of p g.spelled.ending) g.front = subst (λ u. Fits u g.front) g.spelled.wants g.fits in
@@ -131,19 +124,19 @@ module _ (size : ℕ) (ts : List Token) (small : length ts ≤ size) where
       let all : ts ≡ g.front = g.whole ∙ ap (λ u. g.front ++ u) none ∙ append-nil g.front in
       (none, (record { grammar = g.spelled.grammar; ending = g.spelled.ending; fits = subst (λ u. Fits (pieces_of p g.spelled.ending) u) (sym all) of_p }, to_shallow (pieces_of p g.spelled.ending) (subst (λ u. Shallow most_nesting u) g.spelled.wants g.shallow)))
 
-  found_whole : (p : Program) (ps : List Piece) → Shallow most_nesting ps → Found (read_program size 201) most_nesting p ps ts [] → read ≡ reading.good p []
+  found_whole : (p : ProgramTree) (ps : List Piece) → Shallow most_nesting ps → Found (read_program size 201) most_nesting p ps ts [] → read ≡ reading.good p []
   found_whole p ps s (inl h) = ap (read_program size 201) (sym (append-nil ts)) ∙ h
   found_whole p ps s (inr h) = absurd (h.1 s)
 
   -- what is spelled is read, unless it is nested too deeply
-  pub spelled_read : (p : Program) (s : IsSpelled ts p) → AreShallow (pieces_of p s.ending) → read ≡ reading.good p []
+  pub spelled_read : (p : ProgramTree) (s : IsSpelled ts p) → AreShallow (pieces_of p s.ending) → read ≡ reading.good p []
   spelled_read p s shallow =
       found_whole p (pieces_of p s.ending) (from_shallow (pieces_of p s.ending) shallow)
       ((reads size).all p (pieces_of p s.ending) ts [] (record { grammar = s.grammar; ending = s.ending; wants = refl }) s.fits tt (subst (λ u. length u ≤ size) (sym (append-nil ts)) small))
 
 -- ---- a list of tokens spells one program at most
 
-pub one_program : (a b : Program) (ts : List Token) → IsSpelled ts a → IsSpelled ts b → a ≡ b
+pub one_program : (a b : ProgramTree) (ts : List Token) → IsSpelled ts a → IsSpelled ts b → a ≡ b
 one_program a b ts left right =
     let d = deepest (pieces_of a left.ending) in
     let e = deepest (pieces_of b right.ending) in
@@ -159,18 +152,18 @@ module _ (size : ℕ) (before behind : List Token) (w : Token) (fault : read_pro
   abbrev list : List Token
   list = before ++ v ∷ e ∷ []
 
-  pub cannot : length list ≤ size → read_program size 201 list ≡ reading.bad (v ∷ e ∷ []) → Begins (before ++ v ∷ []) → ⊥
-  cannot small h b = none_begins ProgramAt most_nesting Any (λ k. read_program k 201) reads like [] tt size before (e ∷ []) v small h (to_begins (before ++ v ∷ []) b)
+  pub cannot : length list ≤ size → read_program size 201 list ≡ reading.bad (v ∷ e ∷ []) → BeginsOf ProgramAt (before ++ v ∷ []) → ⊥
+  cannot small h b = none_begins ProgramAt most_nesting Any (λ k. read_program k 201) reads like [] tt size before (e ∷ []) v small h b
 
-  pub can_good : length list ≤ size → is_closed list ≡ true → (p : Program) (rest : List Token) → read_program size 201 list ≡ reading.good p rest → Begins (before ++ v ∷ [])
+  pub can_good : length list ≤ size → is_closed list ≡ true → (p : ProgramTree) (rest : List Token) → read_program size 201 list ≡ reading.good p rest → BeginsOf ProgramAt (before ++ v ∷ [])
   can_good small closed p rest h =
       let s = (spelled_whole size list small closed p rest h).1.0 in
       let all : Fits (pieces_of p s.ending) ((before ++ v ∷ []) ++ e ∷ []) = subst (λ u. Fits (pieces_of p s.ending) u) (sym (append_assoc before (v ∷ []) (e ∷ []))) s.fits in
-      from_begins (before ++ v ∷ []) (begins_less ProgramAt (before ++ v ∷ []) (e ∷ [])
+      (begins_less ProgramAt (before ++ v ∷ []) (e ∷ [])
       (record { tree = p; pieces = pieces_of p s.ending; missing = []; spelled_ = record { grammar = s.grammar; ending = s.ending; wants = append-nil (pieces_of p s.ending) }; fits = all }))
 
-  pub can_bad : (rest : List Token) → (length rest ≡ 2 → ⊥) → read_program size 201 list ≡ reading.bad rest → Begins (before ++ v ∷ [])
-  can_bad rest differs h = from_begins (before ++ v ∷ []) (probing.can_bad ProgramAt most_nesting Any (λ k. read_program k 201) reads like [] tt size before behind w fault v e rest differs h)
+  pub can_bad : (rest : List Token) → (length rest ≡ 2 → ⊥) → read_program size 201 list ≡ reading.bad rest → BeginsOf ProgramAt (before ++ v ∷ [])
+  can_bad rest differs h = (probing.can_bad ProgramAt most_nesting Any (λ k. read_program k 201) reads like [] tt size before behind w fault v e rest differs h)
 
-  pub can_deep : (rest : List Token) → read_program size 201 list ≡ reading.deep rest → Begins (before ++ v ∷ [])
-  can_deep rest h = from_begins (before ++ v ∷ []) (probing.can_deep ProgramAt most_nesting Any (λ k. read_program k 201) reads like [] tt size before behind w fault v e rest h)
+  pub can_deep : (rest : List Token) → read_program size 201 list ≡ reading.deep rest → BeginsOf ProgramAt (before ++ v ∷ [])
+  can_deep rest h = (probing.can_deep ProgramAt most_nesting Any (λ k. read_program k 201) reads like [] tt size before behind w fault v e rest h)

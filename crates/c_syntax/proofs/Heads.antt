@@ -2,38 +2,39 @@
 use Rattle.std.proofs.Common.{◌≡◌, ◌<◌, ℕ, ◌+◌, Bool, true, false, ◌&&◌, List, [], ◌∷◌, ◌++◌, length, Option, Some, None, refl, sym, ap, ◌∙◌, subst, arith, codes}
 use Rattle.std.proofs.lemmas.List.{append_assoc, append-nil}
 use Rattle.c_tree.specs.Pieces.{Piece, IsWanted, words_at, word_at, name, mark}
-use Rattle.c_tree.specs.Expressions.{wants_of_specs}
-use Rattle.c_tree.specs.Grammar.{are_specs}
-use Rattle.c_tree.specs.Statements.{wants_of_block, is_block}
-use Rattle.c_tree.specs.Programs.{wants_of_static, wants_of_words, wants_of_parameters, wants_of_function, wants_of_item, are_parameters, is_function, is_item}
+use Rattle.c_tree.specs.Folds.{wants_of_specs, are_specs}
+use Rattle.c_tree.specs.StatementFolds.{wants_of_block, is_block}
+use Rattle.c_tree.specs.Programs.{wants_of_static, wants_of_words, wants_of_function, wants_of_item, is_function, is_item}
+use Rattle.c_tree.specs.Declarations.{wants_of_parameters, are_parameters}
 use Rattle.c_tree.specs.declared.token.Place.{Place}
 use Rattle.c_tree.specs.declared.token.Token.{Token}
 use Rattle.c_tree.specs.declared.token.TokenKind.{TokenKind}
 use Rattle.c_tree.specs.declared.token.TokenKind.TheVariants.{Word, Name, Mark}
-use Rattle.c_tree.specs.declared.expressions.Named.{Named}
-use Rattle.c_tree.specs.declared.expressions.Specs.{Specs}
+use Rattle.c_tree.specs.declared.expressions.Identifier.{Identifier}
+use Rattle.c_tree.specs.declared.expressions.Specifiers.{Specifiers}
 use Rattle.c_tree.specs.declared.statements.Block.{Block}
 use Rattle.c_tree.specs.declared.programs.Parameters.{Parameters}
-use Rattle.c_tree.specs.declared.programs.Words.{Words}
-use Rattle.c_tree.specs.declared.programs.Static.{Static}
-use Rattle.c_tree.specs.declared.programs.Item.{Item}
-use Rattle.c_tree.specs.declared.programs.Item.TheVariants as item
-use Rattle.c_expr.specs.Reading.{Reader, ◌>>=◌, give, choose}
-use Rattle.c_expr.specs.Tokens.{is_word, spelled_by, type_goes_on, type_goes_by, found_by, found_in, read_name}
+use Rattle.c_tree.specs.declared.programs.FunctionSpecifiers.{FunctionSpecifiers}
+use Rattle.c_tree.specs.declared.programs.StaticSpecifier.{StaticSpecifier}
+use Rattle.c_tree.specs.declared.programs.ExternalDeclaration.{ExternalDeclaration}
+use Rattle.c_tree.specs.declared.programs.ExternalDeclaration.TheVariants as item
+use Rattle.c_reader.specs.Reading.{Reader, ◌>>=◌, give, choose}
+use Rattle.c_reader.specs.Tokens.{is_word, spelled_by, found_by, found_in, read_name}
+use Rattle.c_expr.specs.Tokens.{type_goes_on, type_goes_by}
 use Rattle.c_expr.specs.Levels.{readers_at}
-use Rattle.c_expr.proofs.Reader.{Language, Of, Reads}
-use Rattle.c_expr.proofs.Binding.{Both}
-use Rattle.c_expr.proofs.Giving.{Given, reads_as}
-use Rattle.c_expr.proofs.Taking.{Single}
-use Rattle.c_expr.proofs.Choosing.{FirstIs, Either, this, that}
-use Rattle.c_expr.proofs.Repeating.{Several, many_reads, given_stops}
-use Rattle.c_expr.proofs.Beginning.{Begins, begins_single}
-use Rattle.c_expr.proofs.Joining.{in_both, in_single, in_given, onto}
-use Rattle.c_expr.proofs.Spelt.{spelled_yes, spelt, spelt_at, spelt_at_reads, named, named_reads}
+use Rattle.c_reader.proofs.Reader.{Language, Of, Reads}
+use Rattle.c_reader.proofs.Binding.{Both}
+use Rattle.c_reader.proofs.Giving.{Given, reads_as}
+use Rattle.c_reader.proofs.Taking.{Single}
+use Rattle.c_reader.proofs.Choosing.{FirstIs, Either, this, that}
+use Rattle.c_reader.proofs.Repeating.{Several, many_reads, given_stops}
+use Rattle.c_reader.proofs.Beginning.{Begins, begins_single}
+use Rattle.c_reader.proofs.Joining.{in_both, in_single, in_given, onto}
+use Rattle.c_reader.proofs.Spelt.{spelled_yes, spelt, spelt_at, spelt_at_reads, named, named_reads}
 use Rattle.c_expr.proofs.Suffixes.{SpecsAt, StopsType, Any, no_name}
 use Rattle.c_expr.proofs.Members.{some_specs}
 use Rattle.c_expr.proofs.Levels.{all_read}
-use Rattle.c_expr.proofs.Truths.{and_left, and_right, and_both}
+use Rattle.c_reader.proofs.Truths.{and_left, and_right, and_both}
 use Rattle.c_decl.specs.Parameters.{read_parameters}
 use Rattle.c_decl.proofs.Declaring.{name_begins}
 use Rattle.c_decl.proofs.Parameters.{ParametersAt, StopsParameters, parameters_reads, some_parameters}
@@ -52,7 +53,7 @@ use Rattle.c_syntax.proofs.Steps.{Step, Anything, then_, given, spelt_then, plac
 pub record InlinesAt (n : ℕ) (places : List Place) (pieces : List Piece) : Type 0 where
   pub wants : pieces ≡ words_at places (codes "inline") n
 
-pub record FixedAt (n : ℕ) (fixed : Option Static) (pieces : List Piece) : Type 0 where
+pub record FixedAt (n : ℕ) (fixed : Option StaticSpecifier) (pieces : List Piece) : Type 0 where
   pub wants : pieces ≡ wants_of_static fixed n
 
 abbrev pub NoInline : List Token → Type 0
@@ -67,7 +68,7 @@ unfolding words_at
 inlines_open by b n is [] = opens_none by b
 inlines_open by b n is (place ∷ places) = opens_spelled by b n (Some place) Word (codes "inline") (words_at places (codes "inline") n) is
 
-pub fixed_open : (by : TokenKind → List ℕ → Bool) (b : Bool) (n : ℕ) → by Word (codes "static") ≡ b → (fixed : Option Static) → Opens by b (wants_of_static fixed n)
+pub fixed_open : (by : TokenKind → List ℕ → Bool) (b : Bool) (n : ℕ) → by Word (codes "static") ≡ b → (fixed : Option StaticSpecifier) → Opens by b (wants_of_static fixed n)
 unfolding wants_of_static
 fixed_open by b n is None = opens_none by b
 fixed_open by b n is (Some s) = opens_spelled by b n (Some s.place) Word (codes "static") (words_at s.inline (codes "inline") n) is
@@ -98,10 +99,10 @@ module _ (most size n left : ℕ) (level : n + left ≡ most + 1) where
   unfolding words_at
   inlines_step When = record { by = λ when. by_reads inlines_reads; some = ([], ([], record { wants = refl })) }
 
-  abbrev StaticL : Language (Option Static)
+  abbrev StaticL : Language (Option StaticSpecifier)
   StaticL = Both (Single (spelt_at Word (codes "static") n)) (λ place. Both (InlinesAt n) (λ inline. Given (Some (record { place = place; inline = inline }))))
 
-  abbrev BeforeNoWords : Option Static → List Token → Type 0
+  abbrev BeforeNoWords : Option StaticSpecifier → List Token → Type 0
   BeforeNoWords fixed = NoWords
 
   static_step : (When : Type 0) → Step most size When StaticL BeforeNoWords (read_fixed size left)
@@ -110,14 +111,14 @@ module _ (most size n left : ℕ) (level : n + left ≡ most + 1) where
       placed_then most size BeforeNoWords Word (codes "static") n left level When _ _
       (λ place. then_ most size When (InlinesAt n) _ BeforeNoInline BeforeNoWords (read_inlines size left) _ (inlines_step When)
       (λ inline. given most size BeforeNoWords When (Some (record { place = place; inline = inline })))
-      (λ inline ps c qs ys rest is k fits stop. given_stops {A = Option Static} (Some (record { place = place; inline = inline })) c qs ys rest NoInline k fits stop.0))
+      (λ inline ps c qs ys rest is k fits stop. given_stops {A = Option StaticSpecifier} (Some (record { place = place; inline = inline })) c qs ys rest NoInline k fits stop.0))
 
-  fixed_to : (fixed : Option Static) (ps : List Piece) → Either StaticL (Given None) fixed ps → FixedAt n fixed ps
+  fixed_to : (fixed : Option StaticSpecifier) (ps : List Piece) → Either StaticL (Given None) fixed ps → FixedAt n fixed ps
   unfolding wants_of_static
   fixed_to fixed ps (this b) = record { wants = onto b.whole b.left.one (onto b.right.whole b.right.left.wants b.right.right.none) ∙ ap (λ u. word_at b.first (codes "static") n ++ u) (append-nil (words_at b.right.first (codes "inline") n)) ∙ ap (λ u. wants_of_static u n) (sym b.right.right.tree_is) }
   fixed_to fixed ps (that b) = record { wants = b.none ∙ ap (λ u. wants_of_static u n) (sym b.tree_is) }
 
-  fixed_back : (fixed : Option Static) (ps : List Piece) → FixedAt n fixed ps → Either StaticL (Given None) fixed ps
+  fixed_back : (fixed : Option StaticSpecifier) (ps : List Piece) → FixedAt n fixed ps → Either StaticL (Given None) fixed ps
   unfolding wants_of_static
   fixed_back None ps is = that (record { tree_is = refl; none = is.wants })
   fixed_back (Some s) ps is =
@@ -136,29 +137,29 @@ module _ (most size n left : ℕ) (level : n + left ≡ most + 1) where
 
   -- ---- a function behind its words
 
-  pub name_then : {C : Type 0} (StopsC : C → List Token → Type 0) (When : Type 0) (K : Named → Language C) (g : Named → Reader C) → ((name : Named) → Step most size When (K name) StopsC (g name))
+  pub name_then : {C : Type 0} (StopsC : C → List Token → Type 0) (When : Type 0) (K : Identifier → Language C) (g : Identifier → Reader C) → ((name : Identifier) → Step most size When (K name) StopsC (g name))
       → Step most size When (Both (Single (named Name n)) K) StopsC (read_name left >>= g)
   name_then StopsC When K g G =
       then_ most size When (Single (named Name n)) K Anything StopsC (read_name left) g (record { by = λ when. by_reads (named_reads most size Any Name n left level); some = (no_name, (named Name n no_name ∷ [], in_single (named Name n) no_name)) }) G
       (λ name ps c qs ys rest is k fits stop. tt)
 
-  pub specs_then : {C : Type 0} (StopsC : C → List Token → Type 0) (When : Type 0) (K : Specs → Language C) (g : Specs → Reader C) → ((specs : Specs) → Step most size When (K specs) StopsC (g specs))
-      → ((specs : Specs) → Begins (K specs) type_goes_on false) → Step most size When (Both (SpecsAt n) K) StopsC ((readers_at size left).specs >>= g)
+  pub specs_then : {C : Type 0} (StopsC : C → List Token → Type 0) (When : Type 0) (K : Specifiers → Language C) (g : Specifiers → Reader C) → ((specs : Specifiers) → Step most size When (K specs) StopsC (g specs))
+      → ((specs : Specifiers) → Begins (K specs) type_goes_on false) → Step most size When (Both (SpecsAt n) K) StopsC ((readers_at size left).specs >>= g)
   specs_then StopsC When K g G begins =
       then_ most size When (SpecsAt n) K (λ s. StopsType) StopsC (readers_at size left).specs g (record { by = λ when. by_reads (all_read most size left n level).specs; some = some_specs n }) G
       (λ specs ps c qs ys rest is k fits stop. begins specs c qs ys rest k fits)
 
-  abbrev pub made : Words → Specs → Named → Parameters → Block → Item
+  abbrev pub made : FunctionSpecifiers → Specifiers → Identifier → Parameters → Block → ExternalDeclaration
   made words specs name parameters body = item.Function (record { words = words; specs = specs; name = name; parameters = parameters; body = body })
 
-  abbrev pub FunctionBehindL : Words → Specs → Named → Language Item
+  abbrev pub FunctionBehindL : FunctionSpecifiers → Specifiers → Identifier → Language ExternalDeclaration
   FunctionBehindL words specs name =
       Both (Single (spelt Mark (codes "(") n)) (λ opening. Both (ParametersAt n) (λ parameters. Both (Single (spelt Mark (codes ")") n)) (λ closing. Both (BlockAt n) (λ body. Given (made words specs name parameters body)))))
 
-  abbrev pub FunctionOfL : Words → Language Item
+  abbrev pub FunctionOfL : FunctionSpecifiers → Language ExternalDeclaration
   FunctionOfL words = Both (SpecsAt n) (λ specs. Both (Single (named Name n)) (λ name. FunctionBehindL words specs name))
 
-  pub function_behind_step : 0 < left → (words : Words) (specs : Specs) (name : Named) → Step most size Always (FunctionBehindL words specs name) Anything (read_function_behind size left words specs name)
+  pub function_behind_step : 0 < left → (words : FunctionSpecifiers) (specs : Specifiers) (name : Identifier) → Step most size Always (FunctionBehindL words specs name) Anything (read_function_behind size left words specs name)
   unfolding read_function_behind
   function_behind_step positive words specs name =
       spelt_then most size Anything Mark (codes "(") n left level Always _ _
@@ -169,17 +170,17 @@ module _ (most size n left : ℕ) (level : n + left ≡ most + 1) where
       (λ body ps c qs ys rest is k fits stop. tt)))
       (λ parameters ps c qs ys rest is k fits stop. begins_is Mark (codes ")") n (λ closing. Both (BlockAt n) (λ body. Given (made words specs name parameters body))) c qs ys rest k fits))
 
-  name_goes : (words : Words) (specs : Specs) → Begins (Both (Single (named Name n)) (λ name. FunctionBehindL words specs name)) type_goes_on false
+  name_goes : (words : FunctionSpecifiers) (specs : Specifiers) → Begins (Both (Single (named Name n)) (λ name. FunctionBehindL words specs name)) type_goes_on false
   unfolding type_goes_by spelled_by found_by found_in
   name_goes words specs = name_begins n (λ name. FunctionBehindL words specs name) type_goes_by false (λ t. refl)
 
-  pub function_of_step : 0 < left → (words : Words) → Step most size Always (FunctionOfL words) Anything (read_function_of size left words)
+  pub function_of_step : 0 < left → (words : FunctionSpecifiers) → Step most size Always (FunctionOfL words) Anything (read_function_of size left words)
   unfolding read_function_of
   function_of_step positive words = specs_then Anything Always _ _ (λ specs. name_then Anything Always _ _ (λ name. function_behind_step positive words specs name)) (name_goes words)
 
   -- ---- as trees
 
-  function_flat : (words : Words) (specs : Specs) (name' : Named) (parameters : Parameters) (body : Block)
+  function_flat : (words : FunctionSpecifiers) (specs : Specifiers) (name' : Identifier) (parameters : Parameters) (body : Block)
       → wants_of_words words n ++ (wants_of_specs specs n ++ (name name' n ++ ((spelt Mark (codes "(") n tt ∷ []) ++ (wants_of_parameters parameters n ++ ((spelt Mark (codes ")") n tt ∷ []) ++ (wants_of_block body n ++ [])))))) ≡ wants_of_item (made words specs name' parameters body) n
   unfolding wants_of_item wants_of_function
   function_flat words specs name' parameters body =
@@ -193,7 +194,7 @@ module _ (most size n left : ℕ) (level : n + left ≡ most + 1) where
       ap (λ u. a ++ (b ++ (c ++ (d ++ (e ++ (f ++ u)))))) (append-nil g) ∙ (simp (append_assoc) refl)
 
   -- the words, the type and the name before what stands behind them
-  pub function_to : (words : Words) (specs : Specs) (name' : Named) (t : Item) (ps rs ns qs : List Piece) → rs ≡ wants_of_words words n → SpecsAt n specs ns → FunctionBehindL words specs name' t qs → ps ≡ rs ++ (ns ++ (name name' n ++ qs)) → Of is_item (λ i. wants_of_item i n) t ps
+  pub function_to : (words : FunctionSpecifiers) (specs : Specifiers) (name' : Identifier) (t : ExternalDeclaration) (ps rs ns qs : List Piece) → rs ≡ wants_of_words words n → SpecsAt n specs ns → FunctionBehindL words specs name' t qs → ps ≡ rs ++ (ns ++ (name name' n ++ qs)) → Of is_item (λ i. wants_of_item i n) t ps
   unfolding is_item is_function
   function_to words specs name' t ps rs ns qs of_words is b whole =
       let parameters = b.right.first in
@@ -206,13 +207,13 @@ module _ (most size n left : ℕ) (level : n + left ≡ most + 1) where
             ∙ function_flat words specs name' parameters body ∙ ap (λ u. wants_of_item u n) (sym tree);
       }
 
-  pub record Headed (words : Words) (specs : Specs) (name' : Named) (t : Item) (ps : List Piece) : Type 0 where
+  pub record Headed (words : FunctionSpecifiers) (specs : Specifiers) (name' : Identifier) (t : ExternalDeclaration) (ps : List Piece) : Type 0 where
     pub behind : List Piece
     pub specs_ : SpecsAt n specs (wants_of_specs specs n)
     pub rest : FunctionBehindL words specs name' t behind
     pub whole : ps ≡ wants_of_words words n ++ (wants_of_specs specs n ++ (name name' n ++ behind))
 
-  pub function_from : (words : Words) (specs : Specs) (name' : Named) (parameters : Parameters) (body : Block) (ps : List Piece) → Of is_item (λ i. wants_of_item i n) (made words specs name' parameters body) ps → Headed words specs name' (made words specs name' parameters body) ps
+  pub function_from : (words : FunctionSpecifiers) (specs : Specifiers) (name' : Identifier) (parameters : Parameters) (body : Block) (ps : List Piece) → Of is_item (λ i. wants_of_item i n) (made words specs name' parameters body) ps → Headed words specs name' (made words specs name' parameters body) ps
   unfolding is_item is_function
   function_from words specs name' parameters body ps is =
       let two = and_left (are_specs specs && are_parameters parameters) (is_block body) is.grammar in

@@ -2,23 +2,24 @@
 use Rattle.std.proofs.Common.{◌≡◌, ◌<◌, ℕ, ◌+◌, Bool, true, List, [], ◌++◌, length, map, Option, Some, None, option_map, refl, sym, ap, ◌∙◌, subst, arith, codes}
 use Rattle.c_tree.specs.Pieces.{Piece, IsWanted, mark, word, word_at, optional, bounded, all_of}
 use Rattle.c_tree.specs.Operators.{text_of_step}
-use Rattle.c_tree.specs.Expressions.{wants_of_expr}
-use Rattle.c_tree.specs.Grammar.{binds, is_call}
-use Rattle.c_tree.specs.Statements.{wants_of_statement, wants_of_block, wants_of_simple, wants_of_bound, wants_of_first, form_of_statement, is_simple}
+use Rattle.c_tree.specs.Folds.{wants_of_expr, binds, is_call}
+use Rattle.c_tree.specs.StatementFolds.{wants_of_statement, wants_of_block, form_of_statement, wants_of_part}
+use Rattle.c_tree.specs.Declarations.{wants_of_simple, is_simple}
+use Rattle.c_tree.specs.Statements.{wants_of_bound, wants_of_first}
 use Rattle.c_tree.specs.declared.token.TokenKind.{TokenKind}
 use Rattle.c_tree.specs.declared.token.TokenKind.TheVariants.{Word, Mark, Bound}
 use Rattle.c_tree.specs.declared.statements.Block.{Block}
 use Rattle.c_tree.specs.declared.statements.LoopBound.{LoopBound}
-use Rattle.c_tree.specs.declared.statements.Simple.{Simple}
-use Rattle.c_tree.specs.declared.statements.Simple.TheVariants as simple
+use Rattle.c_tree.specs.declared.statements.ExpressionStatement.{ExpressionStatement}
+use Rattle.c_tree.specs.declared.statements.ExpressionStatement.TheVariants as simple
 use Rattle.c_tree.specs.declared.statements.Statement.{Statement}
 use Rattle.c_tree.specs.declared.statements.Step.{Step}
-use Rattle.c_expr.proofs.Beginning.{Begins}
+use Rattle.c_reader.proofs.Beginning.{Begins}
 use Rattle.c_expr.proofs.Starting.{Suits, Leads, leads_append, leads_spelled, begins_cons, expr_leads}
-use Rattle.c_expr.proofs.Truths.{and_left}
+use Rattle.c_reader.proofs.Truths.{and_left}
 use Rattle.c_syntax.proofs.Singles.{StatementAt}
-use Rattle.c_syntax.proofs.TreeCases.{cases_Statement, cases_Block}
-use Rattle.c_syntax.proofs.Trees.{wants_of_part, wants_Block, wants_Empty, wants_Simple, wants_Break, wants_Continue, wants_Return, wants_If, wants_Switch, wants_While, wants_Do, wants_For, wants_Braces, form_Simple}
+use Rattle.c_tree.proofs.StatementCases.{cases_Statement, cases_Block}
+use Rattle.c_tree.proofs.StatementFoldsLaws.{wants_Block, wants_Empty, wants_Expression, wants_Break, wants_Continue, wants_Return, wants_If, wants_Switch, wants_While, wants_Do, wants_For, wants_Braces, form_Expression}
 
 -- a test by kind and text has this answer at each token with which a statement can begin
 pub record SuitsStatement (test : TokenKind → List ℕ → Bool) (b : Bool) : Type 0 where
@@ -37,11 +38,11 @@ pub record SuitsStatement (test : TokenKind → List ℕ → Bool) (b : Bool) : 
   pub bound : (text : List ℕ) → test Bound text ≡ b
 
 module _ (test : TokenKind → List ℕ → Bool) (b : Bool) (s : SuitsStatement test b) where
-  simple_leads : (n : ℕ) (t : Simple) → is_simple t ≡ true → Leads test b n (wants_of_simple t n)
+  simple_leads : (n : ℕ) (t : ExpressionStatement) → is_simple t ≡ true → Leads test b n (wants_of_simple t n)
   unfolding wants_of_simple is_simple
-  simple_leads n (simple.Assign target place mark value) h = leads_append test b n _ _ (leads_append test b n _ _ (expr_leads test b s.expr n 13 11 (omega arith) target (and_left (binds target 11) (binds value 0) h)))
-  simple_leads n (simple.Behind target place step) h = leads_append test b n _ _ (expr_leads test b s.expr n 13 12 (omega arith) target h)
-  simple_leads n (simple.Before place step target) h = leads_spelled test b n (Some place) Mark (text_of_step step) (wants_of_expr target (n + 1)) (s.step step)
+  simple_leads n (simple.Assignment target place mark value) h = leads_append test b n _ _ (leads_append test b n _ _ (expr_leads test b s.expr n 13 11 (omega arith) target (and_left (binds target 11) (binds value 0) h)))
+  simple_leads n (simple.PostfixStep target place step) h = leads_append test b n _ _ (expr_leads test b s.expr n 13 12 (omega arith) target h)
+  simple_leads n (simple.PrefixStep place step target) h = leads_spelled test b n (Some place) Mark (text_of_step step) (wants_of_expr target (n + 1)) (s.step step)
   simple_leads n (simple.Call call) h = expr_leads test b s.expr n 13 13 (omega arith) call (and_left (binds call 13) (is_call call) h)
 
   block_leads : (n : ℕ) (t : Block) → Leads test b (n + 1) (wants_of_block t n)
@@ -64,7 +65,7 @@ module _ (test : TokenKind → List ℕ → Bool) (b : Bool) (s : SuitsStatement
   statement_leads n = cases_Statement (λ t. (form_of_statement t).is ≡ true → Leads test b (n + 1) (wants_of_statement t n))
       (λ block h. subst (λ f. Leads test b (n + 1) (f n)) (sym (wants_Block block)) (block_leads n block))
       (λ place h. subst (λ f. Leads test b (n + 1) (f n)) (sym (wants_Empty place)) (leads_spelled test b (n + 1) (Some place) Mark (codes ";") _ s.semicolon))
-      (λ value h. subst (λ f. Leads test b (n + 1) (f n)) (sym (wants_Simple value)) (leads_append test b (n + 1) _ _ (simple_leads (n + 1) value (sym (ap (λ f. f.is) (form_Simple value)) ∙ h))))
+      (λ value h. subst (λ f. Leads test b (n + 1) (f n)) (sym (wants_Expression value)) (leads_append test b (n + 1) _ _ (simple_leads (n + 1) value (sym (ap (λ f. f.is) (form_Expression value)) ∙ h))))
       (λ place h. subst (λ f. Leads test b (n + 1) (f n)) (sym (wants_Break place)) (leads_spelled test b (n + 1) (Some place) Word (codes "break") _ s.break_))
       (λ place h. subst (λ f. Leads test b (n + 1) (f n)) (sym (wants_Continue place)) (leads_spelled test b (n + 1) (Some place) Word (codes "continue") _ s.continue_))
       (λ place value h. subst (λ f. Leads test b (n + 1) (f n)) (sym (wants_Return place value)) (leads_spelled test b (n + 1) (Some place) Word (codes "return") _ s.return_))

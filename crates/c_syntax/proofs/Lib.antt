@@ -17,7 +17,5 @@ pub mod Sizing
 pub mod Stating
 pub mod Steps
 pub mod Switches
-pub mod TreeCases
-pub mod Trees
 pub mod Whiles
 pub mod Within

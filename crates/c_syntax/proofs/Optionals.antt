@@ -2,23 +2,23 @@
 use Rattle.std.proofs.Common.{◌≡◌, ℕ, Bool, List, [], ◌∷◌, ◌++◌, map, Option, Some, None, sym, ap, ◌∙◌, subst, codes}
 use Rattle.std.proofs.lemmas.List.{append_assoc}
 use Rattle.c_tree.specs.Pieces.{Piece, Fits, Takes, IsWanted, all_of, spelled}
-use Rattle.c_tree.specs.Expressions.{wants_of_dimension}
-use Rattle.c_tree.specs.Statements.{wants_of_start, wants_of_declarator, is_declarator}
+use Rattle.c_tree.specs.Folds.{wants_of_dimension}
+use Rattle.c_tree.specs.Declarations.{wants_of_start, wants_of_declarator, is_declarator}
 use Rattle.c_tree.proofs.Cases.{cases_Dimension}
-use Rattle.c_tree.proofs.Wanted.{wants_Dimension}
+use Rattle.c_tree.proofs.FoldsLaws.{wants_Dimension}
 use Rattle.c_tree.specs.declared.token.Place.{Place}
 use Rattle.c_tree.specs.declared.token.Token.{Token}
 use Rattle.c_tree.specs.declared.token.TokenKind.{TokenKind}
 use Rattle.c_tree.specs.declared.token.TokenKind.TheVariants.{Mark}
 use Rattle.c_tree.specs.declared.expressions.Dimension.{Dimension}
-use Rattle.c_tree.specs.declared.statements.Declarator.{Declarator}
-use Rattle.c_tree.specs.declared.statements.Start.{Start}
-use Rattle.c_expr.proofs.Binding.{fits_part}
-use Rattle.c_expr.proofs.Choosing.{FirstIs}
-use Rattle.c_expr.proofs.Listing.{separated_rest}
-use Rattle.c_expr.proofs.Spelt.{by_text}
+use Rattle.c_tree.specs.declared.statements.InitDeclarator.{InitDeclarator}
+use Rattle.c_tree.specs.declared.statements.Initialization.{Initialization}
+use Rattle.c_reader.proofs.Binding.{fits_part}
+use Rattle.c_reader.proofs.Choosing.{FirstIs}
+use Rattle.c_reader.proofs.Listing.{separated_rest}
+use Rattle.c_reader.proofs.Spelt.{by_text}
 use Rattle.c_decl.proofs.Declaring.{wants_behind}
-use Rattle.c_decl.proofs.Objects.{wants_behind_first}
+use Rattle.c_decl.proofs.Declarations.{wants_behind_first}
 
 -- the first token of the pieces, or the one behind them where there are none
 abbrev pub Opens : (TokenKind → List ℕ → Bool) → Bool → List Piece → Type 0
@@ -55,16 +55,16 @@ module _ (by : TokenKind → List ℕ → Bool) (b : Bool) where
     dimensions_open (d ∷ ds) = dimension_opens d (all_of (map wants_of_dimension ds) n)
 
     module _ (equals : by Mark (codes "=") ≡ b) (comma : by Mark (codes ",") ≡ b) where
-      start_opens : (s : Option Start) → Opens by b (wants_of_start s n)
+      start_opens : (s : Option Initialization) → Opens by b (wants_of_start s n)
       unfolding wants_of_start
       start_opens None = opens_none
       start_opens (Some s) = opens_spelled n (Some s.place) Mark (codes "=") _ equals
 
-      rest_opens : (rest : List Declarator) → Opens by b (separated_rest is_declarator wants_of_declarator n (codes ",") rest)
+      rest_opens : (rest : List InitDeclarator) → Opens by b (separated_rest is_declarator wants_of_declarator n (codes ",") rest)
       unfolding separated_rest
       rest_opens [] = opens_none
       rest_opens (d ∷ ds) = opens_spelled n None Mark (codes ",") _ comma
 
       -- what stands behind the first declared name of objects
-      pub behind_opens : (first : Declarator) (rest : List Declarator) → Opens by b (wants_behind_first first rest n)
+      pub behind_opens : (first : InitDeclarator) (rest : List InitDeclarator) → Opens by b (wants_behind_first first rest n)
       behind_opens first rest = opens_append (wants_behind first n) (separated_rest is_declarator wants_of_declarator n (codes ",") rest) (opens_append _ _ (dimensions_open first.dimensions) (start_opens first.start)) (rest_opens rest)

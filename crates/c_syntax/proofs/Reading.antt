@@ -4,24 +4,24 @@ use Rattle.c_tree.specs.declared.token.Token.{Token}
 use Rattle.c_tree.specs.declared.token.TokenKind.TheVariants.{End}
 use Rattle.c_tree.specs.declared.token.Place.{Place}
 use Rattle.c_tree.specs.declared.expressions.Expr.{Expr}
-use Rattle.c_tree.specs.declared.expressions.Specs.{Specs}
-use Rattle.c_tree.specs.declared.expressions.Tag.{Tag}
+use Rattle.c_tree.specs.declared.expressions.Specifiers.{Specifiers}
+use Rattle.c_tree.specs.declared.expressions.TagSpecifier.{TagSpecifier}
 use Rattle.c_tree.specs.declared.statements.Statement.{Statement}
 use Rattle.c_tree.specs.declared.statements.Statement.TheVariants as statement
-use Rattle.c_tree.specs.declared.programs.Item.{Item}
-use Rattle.c_tree.specs.declared.programs.Words.{Words}
-use Rattle.c_tree.specs.declared.programs.Program.{Program}
-use Rattle.c_expr.specs.Outcome.{sees}
-use Rattle.c_expr.specs.Reading.{Answer, Reader, after, choose, take_as, taken, good, bad, deep, give}
-use Rattle.c_expr.specs.Tokens.{is_kind, is_mark, is_word}
-use Rattle.c_expr.proofs.Gathering.{choose_sees}
-use Rattle.c_tree.specs.Statements.{form_of_statement}
+use Rattle.c_tree.specs.declared.programs.ExternalDeclaration.{ExternalDeclaration}
+use Rattle.c_tree.specs.declared.programs.FunctionSpecifiers.{FunctionSpecifiers}
+use Rattle.c_tree.specs.Programs.{ProgramTree}
+use Rattle.c_reader.specs.Outcome.{sees}
+use Rattle.c_reader.specs.Reading.{Answer, Reader, after, choose, take_as, taken, good, bad, deep, give}
+use Rattle.c_reader.specs.Tokens.{named_of, is_kind, is_mark, is_word}
+use Rattle.c_reader.proofs.Gathering.{choose_sees}
+use Rattle.c_tree.specs.StatementFolds.{form_of_statement, if_statement}
 use Rattle.c_syntax.specs.Levels.{read_block, read_statement}
 use Rattle.c_syntax.specs.Blocks.{read_braces, read_statement_by, read_part_behind, read_part_objects, read_part_tag}
 use Rattle.c_syntax.specs.Loops.{read_loop}
 use Rattle.c_syntax.specs.Starts.{starts_loop}
 use Rattle.c_syntax.specs.Statements.{is_else_behind, read_else, read_otherwise, read_simple_statement}
-use Rattle.c_tree.specs.declared.expressions.Named.{Named}
+use Rattle.c_tree.specs.declared.expressions.Identifier.{Identifier}
 use Rattle.c_tree.specs.declared.statements.Pointer.{Pointer}
 use Rattle.c_syntax.specs.Items.{read_end, words_of, read_function_behind, read_item_objects, read_item_behind, read_item_of, read_item_tag, read_plain_behind}
 
@@ -39,13 +39,13 @@ without_else false true taken_ left_ = refl
 without_else false false taken_ left_ = refl
 
 otherwise_is : (left : ℕ) (read : Reader Statement) (place : Place) (condition : Expr) (first : Statement) (l : List Token)
-    → read_otherwise left read place condition first l ≡ (if (form_of_statement first).open_ then good (statement.If place condition first None) l else (if sees (is_word (codes "else")) l then read_else left read place condition first l else good (statement.If place condition first None) l))
+    → read_otherwise left read place condition first l ≡ (if (form_of_statement first).open_ then good (if_statement place condition first None) l else (if sees (is_word (codes "else")) l then read_else left read place condition first l else good (if_statement place condition first None) l))
 unfolding read_otherwise
 otherwise_is left read place condition first l =
     choose_sees (is_else_behind first) _ _ l ∙ rw (sees_and (not (form_of_statement first).open_) (is_word (codes "else")) l) (without_else (form_of_statement first).open_ (sees (is_word (codes "else")) l) _ _)
 
 pub otherwise_open : (left : ℕ) (read : Reader Statement) (place : Place) (condition : Expr) (first : Statement) (l : List Token) → (form_of_statement first).open_ ≡ true
-    → read_otherwise left read place condition first l ≡ good (statement.If place condition first None) l
+    → read_otherwise left read place condition first l ≡ good (if_statement place condition first None) l
 otherwise_open left read place condition first l open_ = otherwise_is left read place condition first l ∙ rw open_ refl
 
 pub otherwise_else : (left : ℕ) (read : Reader Statement) (place : Place) (condition : Expr) (first : Statement) (l : List Token) → (form_of_statement first).open_ ≡ false → sees (is_word (codes "else")) l ≡ true
@@ -53,7 +53,7 @@ pub otherwise_else : (left : ℕ) (read : Reader Statement) (place : Place) (con
 otherwise_else left read place condition first l open_ is = otherwise_is left read place condition first l ∙ rw (open_, is) refl
 
 pub otherwise_none : (left : ℕ) (read : Reader Statement) (place : Place) (condition : Expr) (first : Statement) (l : List Token) → (form_of_statement first).open_ ≡ false → sees (is_word (codes "else")) l ≡ false
-    → read_otherwise left read place condition first l ≡ good (statement.If place condition first None) l
+    → read_otherwise left read place condition first l ≡ good (if_statement place condition first None) l
 otherwise_none left read place condition first l open_ is = otherwise_is left read place condition first l ∙ rw (open_, is) refl
 
 -- where a level is left, what is nested is read with one less
@@ -91,74 +91,79 @@ module _ (size left : ℕ) (read : Reader Statement) (l : List Token) (brace : s
   statement_simple is = other ∙ choose_sees starts_loop _ _ l ∙ rw is refl
 
 -- a declaration behind its type
-pub part_objects : (size left : ℕ) (specs : Specs) (found : Option Tag) (l : List Token) → sees (is_mark (codes ";")) l ≡ false → read_part_behind size left specs found l ≡ read_part_objects size left specs l
+pub part_objects : (size left : ℕ) (specs : Specifiers) (found : Option TagSpecifier) (l : List Token) → sees (is_mark (codes ";")) l ≡ false → read_part_behind size left specs found l ≡ read_part_objects size left specs l
 unfolding read_part_behind
 part_objects size left specs None l is = refl
 part_objects size left specs (Some tag) l is = choose_sees (is_mark (codes ";")) _ _ l ∙ rw is refl
 
-pub part_tag : (size left : ℕ) (specs : Specs) (found : Option Tag) (tag : Tag) (l : List Token) → found ≡ Some tag → sees (is_mark (codes ";")) l ≡ true → read_part_behind size left specs found l ≡ read_part_tag left tag l
+pub part_tag : (size left : ℕ) (specs : Specifiers) (found : Option TagSpecifier) (tag : TagSpecifier) (l : List Token) → found ≡ Some tag → sees (is_mark (codes ";")) l ≡ true → read_part_behind size left specs found l ≡ read_part_tag left tag l
 unfolding read_part_behind
 part_tag size left specs found tag l e is = rw e (choose_sees (is_mark (codes ";")) _ _ l ∙ rw is refl)
 
-pub part_other : (size left : ℕ) (specs same : Specs) (found : Option Tag) (l : List Token) → same ≡ specs → found ≡ None → read_part_behind size left specs found l ≡ read_part_objects size left same l
+pub part_other : (size left : ℕ) (specs same : Specifiers) (found : Option TagSpecifier) (l : List Token) → same ≡ specs → found ≡ None → read_part_behind size left specs found l ≡ read_part_objects size left same l
 unfolding read_part_behind
 part_other size left specs same found l is e = rw (e, ← is) refl
 
 -- an item behind its type
-pub plain_item : (size left : ℕ) (specs : Specs) (found : Option Tag) (l : List Token) → sees (is_mark (codes ";")) l ≡ false → read_plain_behind size left specs found l ≡ read_item_of size left None specs l
+pub plain_item : (size left : ℕ) (specs : Specifiers) (found : Option TagSpecifier) (l : List Token) → sees (is_mark (codes ";")) l ≡ false → read_plain_behind size left specs found l ≡ read_item_of size left None specs l
 unfolding read_plain_behind
 plain_item size left specs None l is = refl
 plain_item size left specs (Some tag) l is = choose_sees (is_mark (codes ";")) _ _ l ∙ rw is refl
 
-pub plain_tag : (size left : ℕ) (specs : Specs) (found : Option Tag) (tag : Tag) (l : List Token) → found ≡ Some tag → sees (is_mark (codes ";")) l ≡ true → read_plain_behind size left specs found l ≡ read_item_tag left tag l
+pub plain_tag : (size left : ℕ) (specs : Specifiers) (found : Option TagSpecifier) (tag : TagSpecifier) (l : List Token) → found ≡ Some tag → sees (is_mark (codes ";")) l ≡ true → read_plain_behind size left specs found l ≡ read_item_tag left tag l
 unfolding read_plain_behind
 plain_tag size left specs found tag l e is = rw e (choose_sees (is_mark (codes ";")) _ _ l ∙ rw is refl)
 
-pub plain_other : (size left : ℕ) (specs same : Specs) (found : Option Tag) (l : List Token) → same ≡ specs → found ≡ None → read_plain_behind size left specs found l ≡ read_item_of size left None same l
+pub plain_other : (size left : ℕ) (specs same : Specifiers) (found : Option TagSpecifier) (l : List Token) → same ≡ specs → found ≡ None → read_plain_behind size left specs found l ≡ read_item_of size left None same l
 unfolding read_plain_behind
 plain_other size left specs same found l is e = rw (e, ← is) refl
 
 -- an item behind its first declared name
-pub item_function : (size left : ℕ) (fixed : Option Place) (words : Words) (specs : Specs) (pointer : Option Pointer) (name : Named) (l : List Token) → is_some pointer ≡ false → sees (is_mark (codes "(")) l ≡ true → words ≡ words_of fixed
+pub item_function : (size left : ℕ) (fixed : Option Place) (words : FunctionSpecifiers) (specs : Specifiers) (pointer : Option Pointer) (name : Identifier) (l : List Token) → is_some pointer ≡ false → sees (is_mark (codes "(")) l ≡ true → words ≡ words_of fixed
     → read_item_behind size left fixed specs pointer name l ≡ read_function_behind size left words specs name l
 unfolding read_item_behind
 item_function size left fixed words specs (Some pointer) name l some is same = absurd (cc)
 item_function size left fixed words specs None name l some is same = choose_sees (is_mark (codes "(")) _ _ l ∙ rw (is, same) refl
 
-pub item_pointer : (size left : ℕ) (fixed : Option Place) (specs : Specs) (pointer : Option Pointer) (name : Named) (l : List Token) → is_some pointer ≡ true
+pub item_pointer : (size left : ℕ) (fixed : Option Place) (specs : Specifiers) (pointer : Option Pointer) (name : Identifier) (l : List Token) → is_some pointer ≡ true
     → read_item_behind size left fixed specs pointer name l ≡ read_item_objects size left fixed specs pointer name l
 unfolding read_item_behind
 item_pointer size left fixed specs (Some pointer) name l is = refl
 item_pointer size left fixed specs None name l is = absurd (cc)
 
-pub item_objects : (size left : ℕ) (fixed : Option Place) (specs : Specs) (pointer : Option Pointer) (name : Named) (l : List Token) → sees (is_mark (codes "(")) l ≡ false
+pub item_objects : (size left : ℕ) (fixed : Option Place) (specs : Specifiers) (pointer : Option Pointer) (name : Identifier) (l : List Token) → sees (is_mark (codes "(")) l ≡ false
     → read_item_behind size left fixed specs pointer name l ≡ read_item_objects size left fixed specs pointer name l
 unfolding read_item_behind
 item_objects size left fixed specs (Some pointer) name l is = refl
 item_objects size left fixed specs None name l is = choose_sees (is_mark (codes "(")) _ _ l ∙ rw is refl
 
-end_taken : (w : Token) (left : ℕ) (b : Bool) (rest : List Token) → 0 < left → b ≡ true → taken b w.text left w rest ≡ good w.text rest
+end_taken : (w : Token) (left : ℕ) (b : Bool) (rest : List Token) → 0 < left → b ≡ true → taken b (named_of w) left w rest ≡ good (named_of w) rest
 unfolding taken
 end_taken w zero b rest some is = absurd (omega (arith, some))
 end_taken w (suc left) true rest some is = refl
 end_taken w (suc left) false rest some is = absurd (cc)
 
-end_refused : (w : Token) (left : ℕ) (b : Bool) (rest : List Token) → b ≡ false → taken b w.text left w rest ≡ bad (w ∷ rest)
+end_refused : (w : Token) (left : ℕ) (b : Bool) (rest : List Token) → b ≡ false → taken b (named_of w) left w rest ≡ bad (w ∷ rest)
 unfolding taken
 end_refused w left true rest is = absurd (cc)
 end_refused w left false rest is = refl
 
--- the items are all of the program where the end comes next, and elsewhere a fault is there
-pub program_ends : (answer : Answer (List Item)) (left : ℕ) (items : List Item) (l : List Token) → answer ≡ good items l → 0 < left → sees (is_kind End) l ≡ true
-    → after {B = Program} answer (λ found tokens. after {B = Program} (read_end left tokens) (λ end. give (record { items = found }))) ≡ good (record { items = items }) (drop 1 l)
-unfolding sees read_end take_as
-program_ends answer left items [] is some end = absurd (cc)
-program_ends answer left items (w ∷ l) is some end =
-    ap (λ a. after {B = Program} a (λ found tokens. after {B = Program} (read_end left tokens) (λ end. give (record { items = found })))) is ∙ ap (λ a. after {B = Program} a (λ end. give (record { items = items }))) (end_taken w left (is_kind End w) l some end)
+same_first : (v w : Token) (l rest : List Token) → v ∷ l ≡ w ∷ rest → v ≡ w
+same_first v w l rest is = cc
 
-pub program_goes_on : (answer : Answer (List Item)) (left : ℕ) (items : List Item) (l : List Token) → answer ≡ good items l → sees (is_kind End) l ≡ false
-    → after {B = Program} answer (λ found tokens. after {B = Program} (read_end left tokens) (λ end. give (record { items = found }))) ≡ bad l
+-- the items are all of the program where the end comes next, and elsewhere a fault is there
+pub program_ends : (answer : Answer (List ExternalDeclaration)) (left : ℕ) (items : List ExternalDeclaration) (l : List Token) (w : Token) (rest : List Token) → answer ≡ good items l → 0 < left → sees (is_kind End) l ≡ true → l ≡ w ∷ rest
+    → after {B = ProgramTree} answer (λ found tokens. after {B = ProgramTree} (read_end left tokens) (λ end. give (record { items = found; end = end.place }))) ≡ good (record { items = items; end = w.place }) (drop 1 l)
 unfolding sees read_end take_as
-program_goes_on answer left items [] is end = ap (λ a. after {B = Program} a (λ found tokens. after {B = Program} (read_end left tokens) (λ end. give (record { items = found })))) is
+program_ends answer left items [] w rest is some end head = absurd (cc)
+program_ends answer left items (v ∷ l) w rest is some end head =
+    ap (λ a. after {B = ProgramTree} a (λ found tokens. after {B = ProgramTree} (read_end left tokens) (λ end. give (record { items = found; end = end.place })))) is
+    ∙ ap (λ a. after {B = ProgramTree} a (λ end. give (record { items = items; end = end.place }))) (end_taken v left (is_kind End v) l some end)
+    ∙ ap (λ u. good (record { items = items; end = u.place }) l) (same_first v w l rest head)
+
+pub program_goes_on : (answer : Answer (List ExternalDeclaration)) (left : ℕ) (items : List ExternalDeclaration) (l : List Token) → answer ≡ good items l → sees (is_kind End) l ≡ false
+    → after {B = ProgramTree} answer (λ found tokens. after {B = ProgramTree} (read_end left tokens) (λ end. give (record { items = found; end = end.place }))) ≡ bad l
+unfolding sees read_end take_as
+program_goes_on answer left items [] is end = ap (λ a. after {B = ProgramTree} a (λ found tokens. after {B = ProgramTree} (read_end left tokens) (λ end. give (record { items = found; end = end.place })))) is
 program_goes_on answer left items (w ∷ l) is end =
-    ap (λ a. after {B = Program} a (λ found tokens. after {B = Program} (read_end left tokens) (λ end. give (record { items = found })))) is ∙ ap (λ a. after {B = Program} a (λ end. give (record { items = items }))) (end_refused w left (is_kind End w) l end)
+    ap (λ a. after {B = ProgramTree} a (λ found tokens. after {B = ProgramTree} (read_end left tokens) (λ end. give (record { items = found; end = end.place })))) is ∙ ap (λ a. after {B = ProgramTree} a (λ end. give (record { items = items; end = end.place }))) (end_refused w left (is_kind End w) l end)

@@ -1,32 +1,34 @@
 -- The readers of statements that hold no statement.
 use Rattle.std.proofs.Common.{◌≡◌, ℕ, ◌+◌, true, false, ◌||◌, List, [], ◌∷◌, ◌++◌, Option, option_map, refl, sym, ap, ◌∙◌, subst, codes}
 use Rattle.c_tree.specs.Pieces.{Piece, optional}
-use Rattle.c_tree.specs.Expressions.{wants_of_expr}
-use Rattle.c_tree.specs.Statements.{wants_of_statement, wants_of_simple, form_of_statement}
+use Rattle.c_tree.specs.Folds.{wants_of_expr}
+use Rattle.c_tree.specs.StatementFolds.{wants_of_statement, form_of_statement}
+use Rattle.c_tree.specs.Declarations.{wants_of_simple}
 use Rattle.c_tree.specs.declared.token.Place.{Place}
 use Rattle.c_tree.specs.declared.token.Token.{Token}
 use Rattle.c_tree.specs.declared.token.TokenKind.TheVariants.{Word, Mark}
 use Rattle.c_tree.specs.declared.expressions.Expr.{Expr}
-use Rattle.c_tree.specs.declared.statements.Simple.{Simple}
+use Rattle.c_tree.specs.declared.statements.ExpressionStatement.{ExpressionStatement}
 use Rattle.c_tree.specs.declared.statements.Statement.{Statement}
 use Rattle.c_tree.specs.declared.statements.Statement.TheVariants as statement
-use Rattle.c_expr.specs.Tokens.{is_word, is_mark, is_spelled, is_kind, spelled_by, goes_by, suffix_by, found_by, found_in}
-use Rattle.c_expr.proofs.Reader.{Language, Of}
-use Rattle.c_expr.proofs.Binding.{Both}
-use Rattle.c_expr.proofs.Giving.{Given}
-use Rattle.c_expr.proofs.Taking.{Single}
-use Rattle.c_expr.proofs.Choosing.{FirstIs}
-use Rattle.c_expr.proofs.Joining.{in_both, in_single, in_given, onto, join1, join2, join3}
-use Rattle.c_expr.proofs.Spelt.{spelt, spelt_at}
+use Rattle.c_reader.specs.Tokens.{is_word, is_mark, is_spelled, is_kind, spelled_by, found_by, found_in}
+use Rattle.c_expr.specs.Tokens.{goes_by, suffix_by}
+use Rattle.c_reader.proofs.Reader.{Language, Of}
+use Rattle.c_reader.proofs.Binding.{Both}
+use Rattle.c_reader.proofs.Giving.{Given}
+use Rattle.c_reader.proofs.Taking.{Single}
+use Rattle.c_reader.proofs.Choosing.{FirstIs}
+use Rattle.c_reader.proofs.Joining.{in_both, in_single, in_given, onto, join1, join2, join3}
+use Rattle.c_reader.proofs.Spelt.{spelt, spelt_at}
 use Rattle.c_expr.proofs.Primaries.{first_from, prefix_all}
 use Rattle.c_expr.proofs.Starting.{Suits}
-use Rattle.c_decl.specs.Simple.{read_simple}
-use Rattle.c_decl.proofs.Simple.{SimpleAt, StopsSimple, simple_reads, some_simple}
+use Rattle.c_decl.specs.ExpressionStatements.{read_simple}
+use Rattle.c_decl.proofs.ExpressionStatements.{SimpleAt, StopsSimple, simple_reads, some_simple}
 use Rattle.c_syntax.specs.Statements.{read_empty, read_simple_statement, read_break, read_continue, read_return}
 use Rattle.c_syntax.proofs.ByTree.{by_reads}
 use Rattle.c_syntax.proofs.Conditions.{OptionalAt, unless_then}
 use Rattle.c_syntax.proofs.Steps.{Step, then_, given, spelt_then, placed_then, begins_is}
-use Rattle.c_syntax.proofs.Trees.{wants_Empty, wants_Simple, wants_Break, wants_Continue, wants_Return, form_Empty, form_Simple, form_Break, form_Continue, form_Return}
+use Rattle.c_tree.proofs.StatementFoldsLaws.{wants_Empty, wants_Expression, wants_Break, wants_Continue, wants_Return, form_Empty, form_Expression, form_Break, form_Continue, form_Return}
 
 abbrev pub StatementAt : ℕ → Language Statement
 StatementAt n = Of (λ s. (form_of_statement s).is) (λ s. wants_of_statement s n)
@@ -67,7 +69,7 @@ module _ (most size n left : ℕ) (level : (n + 1) + left ≡ most + 1) where
   -- ---- simple ones
 
   abbrev pub SimpleL : Language Statement
-  SimpleL = Both (SimpleAt (n + 1)) (λ value. Both (Single (spelt Mark (codes ";") (n + 1))) (λ closing. Given (statement.Simple value)))
+  SimpleL = Both (SimpleAt (n + 1)) (λ value. Both (Single (spelt Mark (codes ";") (n + 1))) (λ closing. Given (statement.Expression value)))
 
   before_end : (rest : List Token) → FirstIs (is_mark (codes ";")) true rest → StopsSimple rest
   unfolding spelled_by is_spelled is_kind
@@ -78,21 +80,21 @@ module _ (most size n left : ℕ) (level : (n + 1) + left ≡ most + 1) where
   simple_step =
       then_ most size Always (SimpleAt (n + 1)) _ (λ value. StopsSimple) StopsElse (read_simple size left) _
       (record { by = λ u. by_reads (simple_reads most size (n + 1) left level); some = some_simple (n + 1) })
-      (λ value. spelt_then most size StopsElse Mark (codes ";") (n + 1) left level Always _ _ (λ closing. given most size StopsElse Always (statement.Simple value)))
-      (λ value ps c qs ys rest is k fits stop. before_end (ys ++ rest) (begins_is Mark (codes ";") (n + 1) (λ closing. Given (statement.Simple value)) c qs ys rest k fits))
+      (λ value. spelt_then most size StopsElse Mark (codes ";") (n + 1) left level Always _ _ (λ closing. given most size StopsElse Always (statement.Expression value)))
+      (λ value ps c qs ys rest is k fits stop. before_end (ys ++ rest) (begins_is Mark (codes ";") (n + 1) (λ closing. Given (statement.Expression value)) c qs ys rest k fits))
 
-  simple_flat : (value : Simple) → wants_of_simple value (n + 1) ++ ((spelt Mark (codes ";") (n + 1) tt ∷ []) ++ []) ≡ wants_of_statement (statement.Simple value) n
-  simple_flat value = join2 (wants_of_simple value (n + 1)) (spelt Mark (codes ";") (n + 1) tt ∷ []) ∙ sym (ap (λ f. f n) (wants_Simple value))
+  simple_flat : (value : ExpressionStatement) → wants_of_simple value (n + 1) ++ ((spelt Mark (codes ";") (n + 1) tt ∷ []) ++ []) ≡ wants_of_statement (statement.Expression value) n
+  simple_flat value = join2 (wants_of_simple value (n + 1)) (spelt Mark (codes ";") (n + 1) tt ∷ []) ∙ sym (ap (λ f. f n) (wants_Expression value))
 
   pub simple_to : (t : Statement) (ps : List Piece) → SimpleL t ps → StatementAt n t ps
   simple_to t ps b =
-      is_statement n t (statement.Simple b.first) ps b.right.right.tree_is (ap (λ f. f.is) (form_Simple b.first) ∙ b.left.grammar)
+      is_statement n t (statement.Expression b.first) ps b.right.right.tree_is (ap (λ f. f.is) (form_Expression b.first) ∙ b.left.grammar)
       (onto b.whole b.left.wants (onto b.right.whole b.right.left.one b.right.right.none) ∙ simple_flat b.first)
 
-  pub simple_from : (value : Simple) (ps : List Piece) → StatementAt n (statement.Simple value) ps → SimpleL (statement.Simple value) ps
+  pub simple_from : (value : ExpressionStatement) (ps : List Piece) → StatementAt n (statement.Expression value) ps → SimpleL (statement.Expression value) ps
   simple_from value ps is =
-      subst (λ u. SimpleL (statement.Simple value) u) (simple_flat value ∙ sym is.wants)
-      (in_both _ _ _ _ _ value (record { grammar = sym (ap (λ f. f.is) (form_Simple value)) ∙ is.grammar; wants = refl }) (in_both _ _ _ _ _ tt (in_single (spelt Mark (codes ";") (n + 1)) tt) (in_given (statement.Simple value))))
+      subst (λ u. SimpleL (statement.Expression value) u) (simple_flat value ∙ sym is.wants)
+      (in_both _ _ _ _ _ value (record { grammar = sym (ap (λ f. f.is) (form_Expression value)) ∙ is.grammar; wants = refl }) (in_both _ _ _ _ _ tt (in_single (spelt Mark (codes ";") (n + 1)) tt) (in_given (statement.Expression value))))
 
   -- ---- break and continue
 

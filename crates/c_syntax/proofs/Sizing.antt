@@ -3,16 +3,16 @@ use Rattle.std.proofs.Common.{◌≤◌, ℕ, zero, suc, Bool, List, Option, Som
 use Rattle.c_tree.specs.declared.token.Place.{Place}
 use Rattle.c_tree.specs.declared.token.Token.{Token}
 use Rattle.c_tree.specs.declared.expressions.Expr.{Expr}
-use Rattle.c_tree.specs.declared.expressions.Named.{Named}
-use Rattle.c_tree.specs.declared.expressions.Specs.{Specs}
-use Rattle.c_tree.specs.declared.expressions.Tag.{Tag}
+use Rattle.c_tree.specs.declared.expressions.Identifier.{Identifier}
+use Rattle.c_tree.specs.declared.expressions.Specifiers.{Specifiers}
+use Rattle.c_tree.specs.declared.expressions.TagSpecifier.{TagSpecifier}
 use Rattle.c_tree.specs.declared.statements.LoopBound.{LoopBound}
 use Rattle.c_tree.specs.declared.statements.Pointer.{Pointer}
 use Rattle.c_tree.specs.declared.statements.Statement.{Statement}
-use Rattle.c_tree.specs.declared.programs.Words.{Words}
-use Rattle.c_expr.specs.Reading.{Reader, take_as}
+use Rattle.c_tree.specs.declared.programs.FunctionSpecifiers.{FunctionSpecifiers}
+use Rattle.c_reader.specs.Reading.{Reader, take_as}
 use Rattle.c_expr.specs.Levels.{readers_at}
-use Rattle.c_expr.proofs.Shrinking.{Like, like_give, like_deep, like_take, then_some, then_any, then_last, like_any, like_choose}
+use Rattle.c_reader.proofs.Shrinking.{Like, like_give, like_deep, like_take, then_some, then_any, then_last, like_any, like_choose}
 use Rattle.c_expr.proofs.Sizing.{many_like, all_like}
 use Rattle.c_decl.specs.Bare.{tag_of}
 use Rattle.c_decl.proofs.Sizing.{simple_like, pointer_like, bounds_like, objects_like, objects_of_like, objects_behind_like, parameters_like}
@@ -91,11 +91,11 @@ module _ (k s t : ℕ) (enough : k ≤ s) (also : k ≤ t) where
   unfolding read_step
   step_like left = like_choose k 0 _ _ _ _ _ (like_give k None) (then_any k _ _ _ _ (like_any k _ _ (simple_like k s t enough also left)) (λ value. like_give k _))
 
-  part_objects_like : (left : ℕ) (specs : Specs) → Like k 0 (read_part_objects s left specs) (read_part_objects t left specs)
+  part_objects_like : (left : ℕ) (specs : Specifiers) → Like k 0 (read_part_objects s left specs) (read_part_objects t left specs)
   unfolding read_part_objects
   part_objects_like left specs = then_any k _ _ _ _ (like_any k _ _ (objects_of_like k s t enough also left specs)) (λ objects. then_any k _ _ _ _ (marked _ _ left) (λ closing. like_give k _))
 
-  part_behind_like : (left : ℕ) (specs : Specs) (tag : Option Tag) → Like k 0 (read_part_behind s left specs tag) (read_part_behind t left specs tag)
+  part_behind_like : (left : ℕ) (specs : Specifiers) (tag : Option TagSpecifier) → Like k 0 (read_part_behind s left specs tag) (read_part_behind t left specs tag)
   unfolding read_part_behind read_part_tag
   part_behind_like left specs None = part_objects_like left specs
   part_behind_like left specs (Some tag) = like_choose k 0 _ _ _ _ _ (then_any k _ _ _ _ (marked _ _ left) (λ closing. like_give k _)) (part_objects_like left specs)
@@ -192,13 +192,13 @@ module _ (k s t : ℕ) (enough : k ≤ s) (also : k ≤ t) where
       then_some k _ _ _ _ (take _ _ left)
       (λ place. then_any k _ _ _ _ (like_any k _ _ (specs_some left)) (λ specs. then_any k _ _ _ _ (marked _ _ left) (λ name. then_any k _ _ _ _ (bounds_like k s t enough also left) (λ dimensions. then_any k _ _ _ _ (marked _ _ left) (λ closing. like_give k _)))))
 
-  function_behind_like : (left : ℕ) (words : Words) (specs : Specs) (name : Named) → Like k 1 (read_function_behind s left words specs name) (read_function_behind t left words specs name)
+  function_behind_like : (left : ℕ) (words : FunctionSpecifiers) (specs : Specifiers) (name : Identifier) → Like k 1 (read_function_behind s left words specs name) (read_function_behind t left words specs name)
   unfolding read_function_behind
   function_behind_like left words specs name =
       then_some k _ _ _ _ (take _ _ left)
       (λ opening. then_any k _ _ _ _ (parameters_like k s t enough also left) (λ parameters. then_any k _ _ _ _ (marked _ _ left) (λ closing. then_any k _ _ _ _ (like_any k _ _ (block_like left)) (λ body. like_give k _))))
 
-  function_of_like : (left : ℕ) (words : Words) → Like k 1 (read_function_of s left words) (read_function_of t left words)
+  function_of_like : (left : ℕ) (words : FunctionSpecifiers) → Like k 1 (read_function_of s left words) (read_function_of t left words)
   unfolding read_function_of
   function_of_like left words = then_some k _ _ _ _ (specs_some left) (λ specs. then_any k _ _ _ _ (marked _ _ left) (λ name. like_any k _ _ (function_behind_like left words specs name)))
 
@@ -216,16 +216,16 @@ module _ (k s t : ℕ) (enough : k ≤ s) (also : k ≤ t) where
       then_some k _ _ _ _ (take _ _ left)
       (λ first. then_any k _ _ _ _ (inlines_like left) (λ rest. then_any k _ _ _ _ (like_choose k 0 _ _ _ _ _ (like_any k _ _ (fixed_like left)) (like_give k None)) (λ fixed. like_any k _ _ (function_of_like left _))))
 
-  item_objects_like : (left : ℕ) (fixed : Option Place) (specs : Specs) (pointer : Option Pointer) (name : Named) → Like k 0 (read_item_objects s left fixed specs pointer name) (read_item_objects t left fixed specs pointer name)
+  item_objects_like : (left : ℕ) (fixed : Option Place) (specs : Specifiers) (pointer : Option Pointer) (name : Identifier) → Like k 0 (read_item_objects s left fixed specs pointer name) (read_item_objects t left fixed specs pointer name)
   unfolding read_item_objects
   item_objects_like left fixed specs pointer name = then_any k _ _ _ _ (objects_behind_like k s t enough also left specs pointer name) (λ objects. then_any k _ _ _ _ (marked _ _ left) (λ closing. like_give k _))
 
-  item_behind_like : (left : ℕ) (fixed : Option Place) (specs : Specs) (pointer : Option Pointer) (name : Named) → Like k 0 (read_item_behind s left fixed specs pointer name) (read_item_behind t left fixed specs pointer name)
+  item_behind_like : (left : ℕ) (fixed : Option Place) (specs : Specifiers) (pointer : Option Pointer) (name : Identifier) → Like k 0 (read_item_behind s left fixed specs pointer name) (read_item_behind t left fixed specs pointer name)
   unfolding read_item_behind
   item_behind_like left fixed specs None name = like_choose k 0 _ _ _ _ _ (like_any k _ _ (function_behind_like left _ specs name)) (item_objects_like left fixed specs None name)
   item_behind_like left fixed specs (Some pointer) name = item_objects_like left fixed specs (Some pointer) name
 
-  item_of_like : (left : ℕ) (fixed : Option Place) (specs : Specs) → Like k 0 (read_item_of s left fixed specs) (read_item_of t left fixed specs)
+  item_of_like : (left : ℕ) (fixed : Option Place) (specs : Specifiers) → Like k 0 (read_item_of s left fixed specs) (read_item_of t left fixed specs)
   unfolding read_item_of
   item_of_like left fixed specs = then_any k _ _ _ _ (pointer_like k s t enough also left) (λ pointer. then_any k _ _ _ _ (marked _ _ left) (λ name. item_behind_like left fixed specs pointer name))
 
@@ -236,7 +236,7 @@ module _ (k s t : ℕ) (enough : k ≤ s) (also : k ≤ t) where
       (λ place. like_choose k 0 _ _ _ _ _ (then_any k _ _ _ _ (marked _ _ left) (λ first. then_any k _ _ _ _ (inlines_like left) (λ rest. like_any k _ _ (function_of_like left _))))
       (then_any k _ _ _ _ (like_any k _ _ (specs_some left)) (item_of_like left (Some place))))
 
-  plain_behind_like : (left : ℕ) (specs : Specs) (tag : Option Tag) → Like k 0 (read_plain_behind s left specs tag) (read_plain_behind t left specs tag)
+  plain_behind_like : (left : ℕ) (specs : Specifiers) (tag : Option TagSpecifier) → Like k 0 (read_plain_behind s left specs tag) (read_plain_behind t left specs tag)
   unfolding read_plain_behind read_item_tag
   plain_behind_like left specs None = item_of_like left None specs
   plain_behind_like left specs (Some tag) = like_choose k 0 _ _ _ _ _ (then_any k _ _ _ _ (marked _ _ left) (λ closing. like_give k _)) (item_of_like left None specs)

@@ -2,7 +2,8 @@
 use Rattle.std.proofs.Common.{◌≡◌, ◌<◌, ℕ, zero, suc, ◌+◌, Bool, true, false, List, [], ◌++◌, Option, Some, None, refl, sym, ap, ◌∙◌, subst, arith, codes}
 use Rattle.std.proofs.lemmas.List.{append_assoc, append-nil}
 use Rattle.c_tree.specs.Pieces.{Piece, Fits, IsWanted}
-use Rattle.c_tree.specs.Statements.{wants_of_block, wants_of_bound}
+use Rattle.c_tree.specs.StatementFolds.{wants_of_block}
+use Rattle.c_tree.specs.Statements.{wants_of_bound}
 use Rattle.c_tree.specs.declared.token.Token.{Token}
 use Rattle.c_tree.specs.declared.token.TokenKind.{TokenKind}
 use Rattle.c_tree.specs.declared.token.TokenKind.TheVariants.{Word, Mark, Bound}
@@ -10,18 +11,18 @@ use Rattle.c_tree.specs.declared.statements.Block.{Block}
 use Rattle.c_tree.specs.declared.statements.LoopBound.{LoopBound}
 use Rattle.c_tree.specs.declared.statements.Statement.{Statement}
 use Rattle.c_tree.specs.declared.statements.Statement.TheVariants as statement
-use Rattle.c_expr.specs.Reading.{Reader, ◌>>=◌, give, choose}
-use Rattle.c_expr.specs.Tokens.{is_mark, is_word, is_spelled, is_kind, spelled_by}
-use Rattle.c_expr.proofs.Reader.{Language}
-use Rattle.c_expr.proofs.Binding.{Both, fits_part}
-use Rattle.c_expr.proofs.Giving.{Given}
-use Rattle.c_expr.proofs.Choosing.{FirstIs, Either, this, that}
-use Rattle.c_expr.proofs.Repeating.{given_stops}
-use Rattle.c_expr.proofs.Beginning.{Begins, begins_both, begins_either}
-use Rattle.c_expr.proofs.Joining.{in_both, in_given, onto}
+use Rattle.c_reader.specs.Reading.{Reader, ◌>>=◌, give, choose}
+use Rattle.c_reader.specs.Tokens.{is_mark, is_word, is_spelled, is_kind, spelled_by}
+use Rattle.c_reader.proofs.Reader.{Language}
+use Rattle.c_reader.proofs.Binding.{Both, fits_part}
+use Rattle.c_reader.proofs.Giving.{Given}
+use Rattle.c_reader.proofs.Choosing.{FirstIs, Either, this, that}
+use Rattle.c_reader.proofs.Repeating.{given_stops}
+use Rattle.c_reader.proofs.Beginning.{Begins, begins_both, begins_either}
+use Rattle.c_reader.proofs.Joining.{in_both, in_given, onto}
 use Rattle.c_expr.proofs.Primaries.{prefix_all}
 use Rattle.c_expr.proofs.Starting.{Suits, begins_cons}
-use Rattle.c_decl.proofs.Simple.{begins_simple}
+use Rattle.c_decl.proofs.ExpressionStatements.{begins_simple}
 use Rattle.c_syntax.specs.Starts.{starts_loop, loop_by}
 use Rattle.c_syntax.specs.Statements.{read_simple_statement}
 use Rattle.c_syntax.specs.Loops.{read_loop}
@@ -34,8 +35,8 @@ use Rattle.c_syntax.proofs.Ifs.{IfL, if_step, if_to, if_from}
 use Rattle.c_syntax.proofs.Singles.{Always, StatementAt, StopsElse, is_statement, suits_semicolon, EmptyL, empty_step, empty_to, empty_from, SimpleL, simple_step, simple_to, simple_from, BreakL, break_step, break_to, break_from, ContinueL, continue_step, continue_to, continue_from, ReturnL, return_step, return_to, return_from}
 use Rattle.c_syntax.proofs.Steps.{Step, Anything, then_, given, begins_placed}
 use Rattle.c_syntax.proofs.Switches.{SwitchL, switch_step, switch_to, switch_from}
-use Rattle.c_syntax.proofs.TreeCases.{cases_Statement}
-use Rattle.c_syntax.proofs.Trees.{wants_Block, form_Block}
+use Rattle.c_tree.proofs.StatementCases.{cases_Statement}
+use Rattle.c_tree.proofs.StatementFoldsLaws.{wants_Block, form_Block}
 use Rattle.c_syntax.proofs.Whiles.{BoundAt, bound_piece, while_to, while_from, do_to, do_from}
 
 suits_word : (text : List ℕ) → spelled_by Word text Word (codes "true") ≡ false → spelled_by Word text Word (codes "false") ≡ false → Suits (spelled_by Word text) false
@@ -83,11 +84,11 @@ module _ (most size n left : ℕ) (level : (n + 1) + left ≡ most + 1) (read : 
   abbrev Loop_ : Language Statement
   Loop_ = LoopL most size n left level read I
 
-  abbrev Simple_ : Language Statement
-  Simple_ = SimpleL most size n left level
+  abbrev ExpressionStatement_ : Language Statement
+  ExpressionStatement_ = SimpleL most size n left level
 
   abbrev FromLoop : Language Statement
-  FromLoop = Either Loop_ Simple_
+  FromLoop = Either Loop_ ExpressionStatement_
 
   abbrev FromSwitch : Language Statement
   FromSwitch = Either Switch_ FromLoop
@@ -126,11 +127,11 @@ module _ (most size n left : ℕ) (level : (n + 1) + left ≡ most + 1) (read : 
         (bound_first of_bound both.first both.pieces1 parted.front (parted.behind ++ rest) both.left parted.left
         (begins_behind most size n left level read I both.first by b of_while of_do of_for t both.pieces2 parted.behind rest both.right parted.right))
 
-    from_simple : Suits by b → by Mark (codes "++") ≡ b → by Mark (codes "--") ≡ b → Begins Simple_ (λ w. by w.kind w.text) b
+    from_simple : Suits by b → by Mark (codes "++") ≡ b → by Mark (codes "--") ≡ b → Begins ExpressionStatement_ (λ w. by w.kind w.text) b
     from_simple suits up down = begins_both _ _ (λ w. by w.kind w.text) b (begins_simple (n + 1) by b suits up down)
 
     from_loop : Suits by b → by Mark (codes "++") ≡ b → by Mark (codes "--") ≡ b → ((text : List ℕ) → by Bound text ≡ b) → by Word (codes "while") ≡ b → by Word (codes "do") ≡ b → by Word (codes "for") ≡ b → Begins FromLoop (λ w. by w.kind w.text) b
-    from_loop suits up down of_bound of_while of_do of_for = begins_either Loop_ Simple_ (λ w. by w.kind w.text) b (begins_loop of_bound of_while of_do of_for) (from_simple suits up down)
+    from_loop suits up down of_bound of_while of_do of_for = begins_either Loop_ ExpressionStatement_ (λ w. by w.kind w.text) b (begins_loop of_bound of_while of_do of_for) (from_simple suits up down)
 
     from_switch : Begins FromLoop (λ w. by w.kind w.text) b → by Word (codes "switch") ≡ b → Begins FromSwitch (λ w. by w.kind w.text) b
     from_switch rest is = begins_either Switch_ FromLoop (λ w. by w.kind w.text) b (begins_placed Word (codes "switch") (n + 1) _ by b is) rest
@@ -150,7 +151,7 @@ module _ (most size n left : ℕ) (level : (n + 1) + left ≡ most + 1) (read : 
     from_empty : Begins FromBreak (λ w. by w.kind w.text) b → by Mark (codes ";") ≡ b → Begins FromEmpty (λ w. by w.kind w.text) b
     from_empty rest is = begins_either Empty_ FromBreak (λ w. by w.kind w.text) b (begins_placed Mark (codes ";") (n + 1) _ by b is) rest
 
-  no_loop : Begins Simple_ starts_loop false
+  no_loop : Begins ExpressionStatement_ starts_loop false
   unfolding loop_by spelled_by
   no_loop = from_simple loop_by false suits_loop refl refl
 
@@ -196,7 +197,7 @@ module _ (most size n left : ℕ) (level : (n + 1) + left ≡ most + 1) (read : 
 
   read_from_loop : ReadsBy FromLoop most size StopsElse (choose starts_loop (read_loop size left read) (read_simple_statement size left))
   read_from_loop =
-      choose_by Loop_ Simple_ most size StopsElse starts_loop (read_loop size left read) (read_simple_statement size left) ((loop_step most size n left level read I).by tt) ((simple_step most size n left level).by tt)
+      choose_by Loop_ ExpressionStatement_ most size StopsElse starts_loop (read_loop size left read) (read_simple_statement size left) ((loop_step most size n left level read I).by tt) ((simple_step most size n left level).by tt)
       (λ t ps front rest is fits stop. loops t ps front rest is fits) (λ t ps front rest is fits stop. no_loop t ps front rest is fits)
 
   module _ (G : Reader Statement) where

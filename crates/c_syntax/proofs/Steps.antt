@@ -4,14 +4,14 @@ use Rattle.c_tree.specs.Pieces.{Piece, Takes, IsWanted, StandsAt, Fits}
 use Rattle.c_tree.specs.declared.token.Place.{Place}
 use Rattle.c_tree.specs.declared.token.Token.{Token}
 use Rattle.c_tree.specs.declared.token.TokenKind.{TokenKind}
-use Rattle.c_expr.specs.Reading.{Reader, ◌>>=◌, give, take_as}
-use Rattle.c_expr.specs.Tokens.{is_spelled}
-use Rattle.c_expr.proofs.Reader.{Language}
-use Rattle.c_expr.proofs.Binding.{Both}
-use Rattle.c_expr.proofs.Giving.{Given, give_reads}
-use Rattle.c_expr.proofs.Taking.{Single, take_reads}
-use Rattle.c_expr.proofs.Beginning.{Begins, begins_both, begins_single, SomeOf, some_both, some_single, some_given}
-use Rattle.c_expr.proofs.Spelt.{by_text, spelled_yes, spelled_is, spelt, spelt_at}
+use Rattle.c_reader.specs.Reading.{Reader, ◌>>=◌, give, take_as}
+use Rattle.c_reader.specs.Tokens.{is_spelled}
+use Rattle.c_reader.proofs.Reader.{Language}
+use Rattle.c_reader.proofs.Binding.{Both}
+use Rattle.c_reader.proofs.Giving.{Given, give_reads}
+use Rattle.c_reader.proofs.Taking.{Single, take_reads}
+use Rattle.c_reader.proofs.Beginning.{Begins, begins_both, begins_single, SomeOf, some_both, some_single, some_given}
+use Rattle.c_reader.proofs.Spelt.{by_text, spelled_yes, spelled_is, spelt, spelt_at}
 use Rattle.c_decl.proofs.Refusing.{take_bind}
 use Rattle.c_syntax.proofs.ByTree.{ReadsBy, by_reads, by_where, bind_by}
 

@@ -3,9 +3,10 @@ use Rattle.std.proofs.Common.{◌≡◌, ◌<◌, ◌⊎◌, inl, inr, ℕ, ◌+
 use Rattle.std.proofs.lemmas.List.{append_assoc, append-nil, length-append}
 use Rattle.std.specs.List.{list_all}
 use Rattle.c_tree.specs.Pieces.{Piece, word_at, mark, all_of}
-use Rattle.c_tree.specs.Expressions.{wants_of_expr}
-use Rattle.c_tree.specs.Grammar.{binds, has_some}
-use Rattle.c_tree.specs.Statements.{wants_of_statement, wants_of_label, form_of_statement, is_label}
+use Rattle.c_tree.specs.Folds.{wants_of_expr, binds}
+use Rattle.c_tree.specs.Expressions.{has_some}
+use Rattle.c_tree.specs.StatementFolds.{wants_of_statement, form_of_statement, wants_of_section, is_section_tree, switch_statement}
+use Rattle.c_tree.specs.Statements.{wants_of_label, is_label}
 use Rattle.c_tree.specs.declared.token.Place.{Place}
 use Rattle.c_tree.specs.declared.token.Token.{Token}
 use Rattle.c_tree.specs.declared.token.TokenKind.{TokenKind}
@@ -13,25 +14,26 @@ use Rattle.c_tree.specs.declared.token.TokenKind.TheVariants.{Word, Mark}
 use Rattle.c_tree.specs.declared.expressions.Expr.{Expr}
 use Rattle.c_tree.specs.declared.statements.Label.{Label}
 use Rattle.c_tree.specs.declared.statements.Label.TheVariants as label
-use Rattle.c_tree.specs.declared.statements.Section.{Section}
+use Rattle.c_tree.specs.declared.statements.LabelledSection.{LabelledSection}
 use Rattle.c_tree.specs.declared.statements.Statement.{Statement}
 use Rattle.c_tree.specs.declared.statements.Statement.TheVariants as statement
-use Rattle.c_tree.specs.declared.statements.Part.TheViews.{roll-Section}
-use Rattle.c_expr.specs.Reading.{Reader, many}
-use Rattle.c_expr.specs.Tokens.{is_word, is_mark, is_spelled, is_kind, spelled_by, goes_by, suffix_by, found_by, found_in, expr_by}
-use Rattle.c_expr.proofs.Reader.{Language, Of}
-use Rattle.c_expr.proofs.Binding.{Both}
-use Rattle.c_expr.proofs.Giving.{Given}
-use Rattle.c_expr.proofs.Taking.{Single}
-use Rattle.c_expr.proofs.Choosing.{FirstIs, Either, this, that}
-use Rattle.c_expr.proofs.Repeating.{Several, many_reads, several_given_stops, given_stops}
-use Rattle.c_expr.proofs.Beginning.{Begins, begins_both, begins_either, SomeOf}
-use Rattle.c_expr.proofs.Joining.{in_both, in_single, in_given, onto, join3}
-use Rattle.c_expr.proofs.Listing.{all_to, all_from, list_all_map}
-use Rattle.c_expr.proofs.Spelt.{spelt, spelt_at}
+use Rattle.c_tree.specs.declared.statements.BlockItem.TheViews.{roll-LabelledSection}
+use Rattle.c_reader.specs.Reading.{Reader, many}
+use Rattle.c_reader.specs.Tokens.{is_word, is_mark, is_spelled, is_kind, spelled_by, found_by, found_in}
+use Rattle.c_expr.specs.Tokens.{goes_by, suffix_by, expr_by}
+use Rattle.c_reader.proofs.Reader.{Language, Of}
+use Rattle.c_reader.proofs.Binding.{Both}
+use Rattle.c_reader.proofs.Giving.{Given}
+use Rattle.c_reader.proofs.Taking.{Single}
+use Rattle.c_reader.proofs.Choosing.{FirstIs, Either, this, that}
+use Rattle.c_reader.proofs.Repeating.{Several, many_reads, several_given_stops, given_stops}
+use Rattle.c_reader.proofs.Beginning.{Begins, begins_both, begins_either, SomeOf}
+use Rattle.c_reader.proofs.Joining.{in_both, in_single, in_given, onto, join3}
+use Rattle.c_reader.proofs.Listing.{all_to, all_from, list_all_map}
+use Rattle.c_reader.proofs.Spelt.{spelt, spelt_at}
 use Rattle.c_expr.proofs.Primaries.{first_from, prefix_all}
 use Rattle.c_expr.proofs.Suffixes.{At, Any}
-use Rattle.c_expr.proofs.Truths.{not_true, and_left, and_right, and_both}
+use Rattle.c_reader.proofs.Truths.{not_true, and_left, and_right, and_both}
 use Rattle.c_decl.proofs.Marks.{step_all}
 use Rattle.c_syntax.specs.Starts.{starts_label, label_by, starts_statement, statement_by, simple_by, loop_by}
 use Rattle.c_syntax.specs.Statements.{read_case, read_default, read_label, read_section, read_switch}
@@ -42,8 +44,8 @@ use Rattle.c_syntax.proofs.Within.{inner_step}
 use Rattle.c_syntax.proofs.Leading.{SuitsStatement, begins_statement, statement_some}
 use Rattle.c_syntax.proofs.Singles.{Always, StatementAt, StopsElse, is_statement}
 use Rattle.c_syntax.proofs.Steps.{Step, Anything, then_, given, spelt_then, placed_then, placed_deep, begins_is, begins_is_at, begins_spelt, begins_placed}
-use Rattle.c_syntax.proofs.TreeCases.{cases_Section}
-use Rattle.c_syntax.proofs.Trees.{wants_of_section, is_section_tree, wants_Section, is_Section, wants_Switch, form_Switch}
+use Rattle.c_tree.proofs.StatementCases.{cases_LabelledSection}
+use Rattle.c_tree.proofs.StatementFoldsLaws.{wants_LabelledSection, is_LabelledSection, wants_Switch, form_Switch}
 
 and_true_right : (a b : Bool) → (a && true && b) ≡ (a && b)
 and_true_right true b = refl
@@ -56,7 +58,7 @@ and_false false = refl
 abbrev pub LabelAt : ℕ → Language Label
 LabelAt n = Of is_label (λ l. wants_of_label l n)
 
-abbrev pub SectionAt : ℕ → Language Section
+abbrev pub SectionAt : ℕ → Language LabelledSection
 SectionAt n = Of is_section_tree (λ s. wants_of_section s n)
 
 -- ---- labels
@@ -204,13 +206,13 @@ module _ (most size n left : ℕ) (level : (n + 1) + left ≡ most + 1) (read : 
     some = some_several (StatementAt (n + 1));
   }
 
-  abbrev made : Label → List Label → Statement → List Statement → Section
-  made first labels s ss = roll-Section (record { labels = first ∷ labels; statements = s ∷ ss })
+  abbrev made : Label → List Label → Statement → List Statement → LabelledSection
+  made first labels s ss = roll-LabelledSection (record { labels = first ∷ labels; statements = s ∷ ss })
 
-  abbrev SectionL : Language Section
+  abbrev SectionL : Language LabelledSection
   SectionL = Both (LabelAt (n + 1)) (λ first. Both (Several (LabelAt (n + 1))) (λ labels. Both (StatementAt (n + 1)) (λ s. Both (Several (StatementAt (n + 1))) (λ ss. Given (made first labels s ss)))))
 
-  abbrev Ended : Section → List Token → Type 0
+  abbrev Ended : LabelledSection → List Token → Type 0
   Ended t = StopsSection
 
   section_read : Step most size (0 < left) SectionL Ended (read_section size left read)
@@ -234,14 +236,14 @@ module _ (most size n left : ℕ) (level : (n + 1) + left ≡ most + 1) (read : 
       let b = all_of (map wants_of_label labels) (n + 1) in
       let c = wants_of_statement s (n + 1) in
       let d = all_of (map wants_of_statement ss) (n + 1) in
-      (ap (λ u. a ++ (b ++ (c ++ u))) (append-nil d) ∙ sym (append_assoc a b (c ++ d))) ∙ sym (ap (λ f. f (n + 1)) (wants_Section (first ∷ labels) (s ∷ ss)))
+      (ap (λ u. a ++ (b ++ (c ++ u))) (append-nil d) ∙ sym (append_assoc a b (c ++ d))) ∙ sym (ap (λ f. f (n + 1)) (wants_LabelledSection (first ∷ labels) (s ∷ ss)))
 
   section_ok : (first : Label) (labels : List Label) (s : Statement) (ss : List Statement)
       → is_section_tree (made first labels s ss) ≡ ((is_label first && list_all is_label labels) && ((form_of_statement s).is && list_all (λ u. (form_of_statement u).is) ss))
   section_ok first labels s ss =
-      is_Section (first ∷ labels) (s ∷ ss) ∙ and_true_right (is_label first && list_all is_label labels) _ ∙ ap (λ u. (is_label first && list_all is_label labels) && ((form_of_statement s).is && u)) (list_all_map form_of_statement (λ f. f.is) ss)
+      is_LabelledSection (first ∷ labels) (s ∷ ss) ∙ and_true_right (is_label first && list_all is_label labels) _ ∙ ap (λ u. (is_label first && list_all is_label labels) && ((form_of_statement s).is && u)) (list_all_map form_of_statement (λ f. f.is) ss)
 
-  section_to : (t : Section) (ps : List Piece) → SectionL t ps → SectionAt (n + 1) t ps
+  section_to : (t : LabelledSection) (ps : List Piece) → SectionL t ps → SectionAt (n + 1) t ps
   section_to t ps b =
       let first = b.first in
       let labels = b.right.first in
@@ -256,13 +258,13 @@ module _ (most size n left : ℕ) (level : (n + 1) + left ≡ most + 1) (read : 
         wants = onto b.whole b.left.wants (onto b.right.whole ls.wants (onto b.right.right.whole b.right.right.left.wants (onto b.right.right.right.whole os.wants b.right.right.right.right.none))) ∙ section_flat first labels s ss ∙ ap (λ u. wants_of_section u (n + 1)) (sym is);
       }
 
-  section_no : (labels : List Label) (statements : List Statement) → (has_some labels ≡ false) ⊎ (has_some statements ≡ false) → is_section_tree (roll-Section (record { labels = labels; statements = statements })) ≡ true → ⊥
-  section_no [] statements lacks h = not_true (sym (is_Section [] statements) ∙ h)
-  section_no (l ∷ ls) [] lacks h = not_true (sym (and_false (is_label l && list_all is_label ls)) ∙ sym (is_Section (l ∷ ls) []) ∙ h)
+  section_no : (labels : List Label) (statements : List Statement) → (has_some labels ≡ false) ⊎ (has_some statements ≡ false) → is_section_tree (roll-LabelledSection (record { labels = labels; statements = statements })) ≡ true → ⊥
+  section_no [] statements lacks h = not_true (sym (is_LabelledSection [] statements) ∙ h)
+  section_no (l ∷ ls) [] lacks h = not_true (sym (and_false (is_label l && list_all is_label ls)) ∙ sym (is_LabelledSection (l ∷ ls) []) ∙ h)
   section_no (l ∷ ls) (s ∷ ss) (inl h) g = absurd (cc)
   section_no (l ∷ ls) (s ∷ ss) (inr h) g = absurd (cc)
 
-  section_from_parts : (labels : List Label) (statements : List Statement) (ps : List Piece) → SectionAt (n + 1) (roll-Section (record { labels = labels; statements = statements })) ps → SectionL (roll-Section (record { labels = labels; statements = statements })) ps
+  section_from_parts : (labels : List Label) (statements : List Statement) (ps : List Piece) → SectionAt (n + 1) (roll-LabelledSection (record { labels = labels; statements = statements })) ps → SectionL (roll-LabelledSection (record { labels = labels; statements = statements })) ps
   section_from_parts [] statements ps is = absurd (section_no [] statements (inl refl) is.grammar)
   section_from_parts (l ∷ ls) [] ps is = absurd (section_no (l ∷ ls) [] (inr refl) is.grammar)
   section_from_parts (l ∷ ls) (s ∷ ss) ps is =
@@ -275,8 +277,8 @@ module _ (most size n left : ℕ) (level : (n + 1) + left ≡ most + 1) (read : 
       (in_both _ _ _ _ _ s (record { grammar = and_left (form_of_statement s).is (list_all (λ u. (form_of_statement u).is) ss) right; wants = refl })
       (in_both _ _ _ _ _ ss (all_from (λ u. (form_of_statement u).is) wants_of_statement (n + 1) ss _ (record { grammar = and_right (form_of_statement s).is (list_all (λ u. (form_of_statement u).is) ss) right; wants = refl })) (in_given (made l ls s ss))))))
 
-  section_back : (t : Section) (ps : List Piece) → SectionAt (n + 1) t ps → SectionL t ps
-  section_back = cases_Section (λ t. (ps : List Piece) → SectionAt (n + 1) t ps → SectionL t ps) section_from_parts
+  section_back : (t : LabelledSection) (ps : List Piece) → SectionAt (n + 1) t ps → SectionL t ps
+  section_back = cases_LabelledSection (λ t. (ps : List Piece) → SectionAt (n + 1) t ps → SectionL t ps) section_from_parts
 
   section_step : Step most size (0 < left) (SectionAt (n + 1)) Ended (read_section size left read)
   section_step = record { by = λ when. by_as section_to section_back (section_read.by when); some = (section_read.some.0, (section_read.some.1.0, section_to section_read.some.0 section_read.some.1.0 section_read.some.1.1)) }
@@ -285,7 +287,7 @@ module _ (most size n left : ℕ) (level : (n + 1) + left ≡ most + 1) (read : 
   unfolding label_by spelled_by
   begins_section t ps front rest is fits = begins_both (LabelAt (n + 1)) _ starts_label true (begins_label most size (n + 1) left level label_by true refl refl) t ps front rest (section_back t ps is) fits
 
-  section_some : (t : Section) (ps : List Piece) → SectionAt (n + 1) t ps → 0 < length ps
+  section_some : (t : LabelledSection) (ps : List Piece) → SectionAt (n + 1) t ps → 0 < length ps
   section_some t ps is =
       let b = section_back t ps is in
       omega (arith, ap length b.whole, length-append b.pieces1 b.pieces2, label_some most size (n + 1) left level b.first b.pieces1 b.left)
@@ -315,7 +317,7 @@ module _ (most size n left : ℕ) (level : (n + 1) + left ≡ most + 1) (read : 
   abbrev pub SwitchL : Language Statement
   SwitchL =
       Both (Single (spelt_at Word (codes "switch") (n + 1))) (λ place. Both (ConditionAt (n + 1)) (λ value. Both (Single (spelt Mark (codes "{") (n + 1))) (λ opening. Both (Several (SectionAt (n + 1))) (λ sections.
-      Both (Single (spelt Mark (codes "}") (n + 1))) (λ closing. Given (statement.Switch place value sections))))))
+      Both (Single (spelt Mark (codes "}") (n + 1))) (λ closing. Given (switch_statement place value sections))))))
 
   pub switch_step : Step most size Always SwitchL StopsElse (read_switch size left read)
   unfolding read_switch
@@ -324,12 +326,12 @@ module _ (most size n left : ℕ) (level : (n + 1) + left ≡ most + 1) (read : 
       (λ place. condition_then most size (n + 1) left level StopsElse (0 < left) _ _
       (λ value. spelt_then most size StopsElse Mark (codes "{") (n + 1) left level (0 < left) _ _
       (λ opening. then_ most size (0 < left) (Several (SectionAt (n + 1))) _ (λ ss. Closed) StopsElse (many size starts_label (read_section size left read)) _ sections_step
-      (λ sections. spelt_then most size StopsElse Mark (codes "}") (n + 1) left level (0 < left) _ _ (λ closing. given most size StopsElse (0 < left) (statement.Switch place value sections)))
-      (λ sections ps c qs ys rest is k fits stop. begins_is Mark (codes "}") (n + 1) (λ closing. Given (statement.Switch place value sections)) c qs ys rest k fits))))
+      (λ sections. spelt_then most size StopsElse Mark (codes "}") (n + 1) left level (0 < left) _ _ (λ closing. given most size StopsElse (0 < left) (switch_statement place value sections)))
+      (λ sections ps c qs ys rest is k fits stop. begins_is Mark (codes "}") (n + 1) (λ closing. Given (switch_statement place value sections)) c qs ys rest k fits))))
 
-  switch_flat : (place : Place) (value : Expr) (sections : List Section)
+  switch_flat : (place : Place) (value : Expr) (sections : List LabelledSection)
       → (spelt_at Word (codes "switch") (n + 1) place ∷ []) ++ ((mark (codes "(") (n + 1) ++ wants_of_expr value (n + 1) ++ mark (codes ")") (n + 1)) ++ ((spelt Mark (codes "{") (n + 1) tt ∷ []) ++ (all_of (map wants_of_section sections) (n + 1) ++ ((spelt Mark (codes "}") (n + 1) tt ∷ []) ++ []))))
-      ≡ wants_of_statement (statement.Switch place value sections) n
+      ≡ wants_of_statement (switch_statement place value sections) n
   switch_flat place value sections =
       let a = spelt_at Word (codes "switch") (n + 1) place ∷ [] in
       let b = mark (codes "(") (n + 1) in
@@ -340,22 +342,22 @@ module _ (most size n left : ℕ) (level : (n + 1) + left ≡ most + 1) (read : 
       let g = spelt Mark (codes "}") (n + 1) tt ∷ [] in
       (simp (append_assoc) refl) ∙ sym (ap (λ f. f n) (wants_Switch place value sections))
 
-  switch_ok : (place : Place) (value : Expr) (sections : List Section) → (form_of_statement (statement.Switch place value sections)).is ≡ (binds value 0 && list_all is_section_tree sections)
+  switch_ok : (place : Place) (value : Expr) (sections : List LabelledSection) → (form_of_statement (switch_statement place value sections)).is ≡ (binds value 0 && list_all is_section_tree sections)
   switch_ok place value sections = ap (λ f. f.is) (form_Switch place value sections) ∙ ap (λ u. binds value 0 && u) (list_all_map is_section_tree (λ u. u) sections)
 
   pub switch_to : (t : Statement) (ps : List Piece) → SwitchL t ps → StatementAt n t ps
   switch_to t ps b =
       let all = all_to is_section_tree wants_of_section (n + 1) b.right.right.right.first b.right.right.right.pieces1 b.right.right.right.left in
-      is_statement n t (statement.Switch b.first b.right.first b.right.right.right.first) ps b.right.right.right.right.right.tree_is
+      is_statement n t (switch_statement b.first b.right.first b.right.right.right.first) ps b.right.right.right.right.right.tree_is
       (switch_ok b.first b.right.first b.right.right.right.first ∙ and_both (binds b.right.first 0) (list_all is_section_tree b.right.right.right.first) b.right.left.grammar all.grammar)
       (onto b.whole b.left.one (onto b.right.whole b.right.left.wants (onto b.right.right.whole b.right.right.left.one (onto b.right.right.right.whole all.wants (onto b.right.right.right.right.whole b.right.right.right.right.left.one b.right.right.right.right.right.none)))) ∙ switch_flat b.first b.right.first b.right.right.right.first)
 
-  pub switch_from : (place : Place) (value : Expr) (sections : List Section) (ps : List Piece) → StatementAt n (statement.Switch place value sections) ps → SwitchL (statement.Switch place value sections) ps
+  pub switch_from : (place : Place) (value : Expr) (sections : List LabelledSection) (ps : List Piece) → StatementAt n (switch_statement place value sections) ps → SwitchL (switch_statement place value sections) ps
   switch_from place value sections ps is =
       let g = sym (switch_ok place value sections) ∙ is.grammar in
-      subst (λ u. SwitchL (statement.Switch place value sections) u) (switch_flat place value sections ∙ sym is.wants)
+      subst (λ u. SwitchL (switch_statement place value sections) u) (switch_flat place value sections ∙ sym is.wants)
       (in_both _ _ _ _ _ place (in_single (spelt_at Word (codes "switch") (n + 1)) place)
       (in_both _ _ _ _ _ value (record { grammar = and_left (binds value 0) (list_all is_section_tree sections) g; wants = refl })
       (in_both _ _ _ _ _ tt (in_single (spelt Mark (codes "{") (n + 1)) tt)
       (in_both _ _ _ _ _ sections (all_from is_section_tree wants_of_section (n + 1) sections _ (record { grammar = and_right (binds value 0) (list_all is_section_tree sections) g; wants = refl }))
-      (in_both _ _ _ _ _ tt (in_single (spelt Mark (codes "}") (n + 1)) tt) (in_given (statement.Switch place value sections)))))))
+      (in_both _ _ _ _ _ tt (in_single (spelt Mark (codes "}") (n + 1)) tt) (in_given (switch_statement place value sections)))))))

@@ -1,21 +1,21 @@
 -- Statements that are parts of statements.
 use Rattle.std.proofs.Common.{◌≡◌, ◌<◌, ℕ, ◌+◌, false, List, refl, ap, ◌∙◌, codes}
-use Rattle.c_tree.specs.Statements.{wants_of_statement, form_of_statement}
+use Rattle.c_tree.specs.StatementFolds.{wants_of_statement, form_of_statement}
 use Rattle.c_tree.specs.declared.token.Token.{Token}
 use Rattle.c_tree.specs.declared.statements.Statement.{Statement}
 use Rattle.c_tree.specs.declared.statements.Statement.TheVariants as statement
-use Rattle.c_expr.specs.Reading.{Reader, ◌>>=◌, give}
-use Rattle.c_expr.specs.Tokens.{is_word}
-use Rattle.c_expr.proofs.Reader.{Language}
-use Rattle.c_expr.proofs.Binding.{Both}
-use Rattle.c_expr.proofs.Giving.{Given}
-use Rattle.c_expr.proofs.Choosing.{FirstIs}
-use Rattle.c_expr.proofs.Repeating.{given_stops}
-use Rattle.c_expr.proofs.Beginning.{Begins, SomeOf}
+use Rattle.c_reader.specs.Reading.{Reader, ◌>>=◌, give}
+use Rattle.c_reader.specs.Tokens.{is_word}
+use Rattle.c_reader.proofs.Reader.{Language}
+use Rattle.c_reader.proofs.Binding.{Both}
+use Rattle.c_reader.proofs.Giving.{Given}
+use Rattle.c_reader.proofs.Choosing.{FirstIs}
+use Rattle.c_reader.proofs.Repeating.{given_stops}
+use Rattle.c_reader.proofs.Beginning.{Begins, SomeOf}
 use Rattle.c_syntax.proofs.ByTree.{ReadsBy}
 use Rattle.c_syntax.proofs.Singles.{StatementAt, StopsElse}
 use Rattle.c_syntax.proofs.Steps.{Step, then_, given}
-use Rattle.c_syntax.proofs.Trees.{form_Empty}
+use Rattle.c_tree.proofs.StatementFoldsLaws.{form_Empty}
 
 pub some_statement : (n : ℕ) → SomeOf (StatementAt n)
 some_statement n =

@@ -1,44 +1,45 @@
 -- How blocks are read (C11 6.8.2), and the statement at any place by its first token.
 use Rattle.std.specs.Prelude.{ℕ, Option, Some, None, codes}
-use Rattle.c_tree.specs.declared.expressions.Specs.{Specs}
-use Rattle.c_tree.specs.declared.expressions.Tag.{Tag}
+use Rattle.c_tree.specs.declared.expressions.Specifiers.{Specifiers}
+use Rattle.c_tree.specs.declared.expressions.TagSpecifier.{TagSpecifier}
 use Rattle.c_tree.specs.declared.statements.Block.{Block}
-use Rattle.c_tree.specs.declared.statements.Part.{Part}
-use Rattle.c_tree.specs.declared.statements.Part.TheVariants as part
-use Rattle.c_tree.specs.declared.statements.Part.TheViews.{roll-Block}
+use Rattle.c_tree.specs.declared.statements.BlockItem.{BlockItem}
+use Rattle.c_tree.specs.declared.statements.BlockItem.TheVariants as part
+use Rattle.c_tree.specs.declared.statements.BlockItem.TheViews.{roll-Block}
 use Rattle.c_tree.specs.declared.statements.Statement.{Statement}
 use Rattle.c_tree.specs.declared.statements.Statement.TheVariants as statement
-use Rattle.c_expr.specs.Reading.{Reader, ◌>>=◌, give, choose, many}
-use Rattle.c_expr.specs.Tokens.{is_mark, is_word, starts_type, read_mark, read_mark_at}
+use Rattle.c_reader.specs.Reading.{Reader, ◌>>=◌, give, choose, many}
+use Rattle.c_reader.specs.Tokens.{is_mark, is_word, read_mark, read_mark_at}
+use Rattle.c_expr.specs.Tokens.{starts_type}
 use Rattle.c_expr.specs.Levels.{readers_at}
 use Rattle.c_decl.specs.Bare.{tag_of}
-use Rattle.c_decl.specs.Objects.{read_objects_of}
+use Rattle.c_decl.specs.Declarations.{read_objects_of}
 use Rattle.c_syntax.specs.Starts.{starts_part, starts_loop}
 use Rattle.c_syntax.specs.Statements.{read_empty, read_simple_statement, read_break, read_continue, read_return, read_if, read_switch}
 use Rattle.c_syntax.specs.Loops.{read_loop}
 
 -- ---- declarations in a block
 
-unfoldable pub read_part_objects : ℕ → ℕ → Specs → Reader Part
+unfoldable pub read_part_objects : ℕ → ℕ → Specifiers → Reader BlockItem
 read_part_objects size left specs = do
   objects ← read_objects_of size left specs
   closing ← read_mark (codes ";") left
-  give (part.Objects objects)
+  give (part.Declaration objects)
 
-unfoldable pub read_part_tag : ℕ → Tag → Reader Part
+unfoldable pub read_part_tag : ℕ → TagSpecifier → Reader BlockItem
 read_part_tag left tag = do
   closing ← read_mark (codes ";") left
-  give (part.Tag tag)
+  give (part.TagSpecifier tag)
 
 -- behind a type that is a tag alone the end makes it a declaration of the tag
-unfoldable pub read_part_behind : ℕ → ℕ → Specs → Option Tag → Reader Part
+unfoldable pub read_part_behind : ℕ → ℕ → Specifiers → Option TagSpecifier → Reader BlockItem
 read_part_behind size left specs None = read_part_objects size left specs
 read_part_behind size left specs (Some tag) = choose (is_mark (codes ";")) (read_part_tag left tag) (read_part_objects size left specs)
 
-unfoldable pub read_declaration : ℕ → ℕ → Reader Part
+unfoldable pub read_declaration : ℕ → ℕ → Reader BlockItem
 read_declaration size left = (readers_at size left).specs >>= λ specs. read_part_behind size left specs (tag_of specs)
 
-unfoldable pub read_part : ℕ → ℕ → Reader Statement → Reader Part
+unfoldable pub read_part : ℕ → ℕ → Reader Statement → Reader BlockItem
 read_part size left read = choose starts_type (read_declaration size left) (read >>= λ value. give (part.Statement value))
 
 unfoldable pub read_braces : ℕ → ℕ → Reader Statement → Reader Block

@@ -2,25 +2,25 @@
 use Rattle.std.specs.Prelude.{ℕ, List, [], ◌∷◌, Option, Some, None, codes}
 use Rattle.c_tree.specs.declared.token.Place.{Place}
 use Rattle.c_tree.specs.declared.token.TokenKind.TheVariants.{End}
-use Rattle.c_tree.specs.declared.expressions.Named.{Named}
-use Rattle.c_tree.specs.declared.expressions.Specs.{Specs}
-use Rattle.c_tree.specs.declared.expressions.Tag.{Tag}
+use Rattle.c_tree.specs.declared.expressions.Identifier.{Identifier}
+use Rattle.c_tree.specs.declared.expressions.Specifiers.{Specifiers}
+use Rattle.c_tree.specs.declared.expressions.TagSpecifier.{TagSpecifier}
 use Rattle.c_tree.specs.declared.statements.Pointer.{Pointer}
-use Rattle.c_tree.specs.declared.programs.Words.{Words}
-use Rattle.c_tree.specs.declared.programs.Static.{Static}
-use Rattle.c_tree.specs.declared.programs.Item.{Item}
-use Rattle.c_tree.specs.declared.programs.Item.TheVariants as item
-use Rattle.c_tree.specs.declared.programs.Program.{Program}
-use Rattle.c_expr.specs.Reading.{Reader, ◌>>=◌, give, take_as, choose, many}
-use Rattle.c_expr.specs.Tokens.{is_mark, is_word, is_kind, read_mark, read_word_at, read_name}
+use Rattle.c_tree.specs.declared.programs.FunctionSpecifiers.{FunctionSpecifiers}
+use Rattle.c_tree.specs.declared.programs.StaticSpecifier.{StaticSpecifier}
+use Rattle.c_tree.specs.declared.programs.ExternalDeclaration.{ExternalDeclaration}
+use Rattle.c_tree.specs.declared.programs.ExternalDeclaration.TheVariants as item
+use Rattle.c_tree.specs.Programs.{ProgramTree}
+use Rattle.c_reader.specs.Reading.{Reader, ◌>>=◌, give, take_as, choose, many}
+use Rattle.c_reader.specs.Tokens.{named_of, is_mark, is_word, is_kind, read_mark, read_word_at, read_name}
 use Rattle.c_expr.specs.Levels.{readers_at}
 use Rattle.c_decl.specs.Bare.{tag_of}
-use Rattle.c_decl.specs.Objects.{read_pointer, read_bounds, read_objects_behind}
+use Rattle.c_decl.specs.Declarations.{read_pointer, read_bounds, read_objects_behind}
 use Rattle.c_decl.specs.Parameters.{read_parameters}
 use Rattle.c_syntax.specs.Starts.{starts_item}
 use Rattle.c_syntax.specs.Levels.{read_block}
 
-unfoldable pub read_typedef : ℕ → ℕ → Reader Item
+unfoldable pub read_typedef : ℕ → ℕ → Reader ExternalDeclaration
 read_typedef size left = do
   place ← read_word_at (codes "typedef") left
   specs ← (readers_at size left).specs
@@ -32,7 +32,7 @@ read_typedef size left = do
 -- ---- functions
 
 -- what stands behind the name of a function
-unfoldable pub read_function_behind : ℕ → ℕ → Words → Specs → Named → Reader Item
+unfoldable pub read_function_behind : ℕ → ℕ → FunctionSpecifiers → Specifiers → Identifier → Reader ExternalDeclaration
 read_function_behind size left words specs name = do
   opening ← read_mark (codes "(") left
   parameters ← read_parameters size left
@@ -40,7 +40,7 @@ read_function_behind size left words specs name = do
   body ← read_block size left
   give (item.Function (record { words = words; specs = specs; name = name; parameters = parameters; body = body }))
 
-unfoldable pub read_function_of : ℕ → ℕ → Words → Reader Item
+unfoldable pub read_function_of : ℕ → ℕ → FunctionSpecifiers → Reader ExternalDeclaration
 read_function_of size left words = do
   specs ← (readers_at size left).specs
   name ← read_name left
@@ -52,14 +52,14 @@ read_inline left = read_word_at (codes "inline") left
 unfoldable pub read_inlines : ℕ → ℕ → Reader (List Place)
 read_inlines size left = many size (is_word (codes "inline")) (read_inline left)
 
-unfoldable pub read_fixed : ℕ → ℕ → Reader (Option Static)
+unfoldable pub read_fixed : ℕ → ℕ → Reader (Option StaticSpecifier)
 read_fixed size left = do
   place ← read_word_at (codes "static") left
   inline ← read_inlines size left
   give (Some (record { place = place; inline = inline }))
 
 -- a function that begins with inline
-unfoldable pub read_inlined : ℕ → ℕ → Reader Item
+unfoldable pub read_inlined : ℕ → ℕ → Reader ExternalDeclaration
 read_inlined size left = do
   first ← read_inline left
   rest ← read_inlines size left
@@ -68,67 +68,67 @@ read_inlined size left = do
 
 -- ---- objects, or a function
 
-abbrev pub words_of : Option Place → Words
+abbrev pub words_of : Option Place → FunctionSpecifiers
 words_of None = record { inline = []; fixed = None }
 words_of (Some place) = record { inline = []; fixed = Some (record { place = place; inline = [] }) }
 
-unfoldable pub read_item_objects : ℕ → ℕ → Option Place → Specs → Option Pointer → Named → Reader Item
+unfoldable pub read_item_objects : ℕ → ℕ → Option Place → Specifiers → Option Pointer → Identifier → Reader ExternalDeclaration
 read_item_objects size left fixed specs pointer name = do
   objects ← read_objects_behind size left specs pointer name
   closing ← read_mark (codes ";") left
-  give (item.Objects fixed objects)
+  give (item.Declaration fixed objects)
 
 -- behind the first declared name, which is a function's where it is no pointer's and a bracket opens
-unfoldable pub read_item_behind : ℕ → ℕ → Option Place → Specs → Option Pointer → Named → Reader Item
+unfoldable pub read_item_behind : ℕ → ℕ → Option Place → Specifiers → Option Pointer → Identifier → Reader ExternalDeclaration
 read_item_behind size left fixed specs None name =
     choose (is_mark (codes "(")) (read_function_behind size left (words_of fixed) specs name) (read_item_objects size left fixed specs None name)
 read_item_behind size left fixed specs (Some pointer) name = read_item_objects size left fixed specs (Some pointer) name
 
-unfoldable pub read_item_of : ℕ → ℕ → Option Place → Specs → Reader Item
+unfoldable pub read_item_of : ℕ → ℕ → Option Place → Specifiers → Reader ExternalDeclaration
 read_item_of size left fixed specs = do
   pointer ← read_pointer left
   name ← read_name left
   read_item_behind size left fixed specs pointer name
 
 -- an item that begins with static
-unfoldable pub read_static_inlined : ℕ → ℕ → Place → Reader Item
+unfoldable pub read_static_inlined : ℕ → ℕ → Place → Reader ExternalDeclaration
 read_static_inlined size left place = do
   first ← read_inline left
   rest ← read_inlines size left
   read_function_of size left (record { inline = []; fixed = Some (record { place = place; inline = first ∷ rest }) })
 
-unfoldable pub read_static : ℕ → ℕ → Reader Item
+unfoldable pub read_static : ℕ → ℕ → Reader ExternalDeclaration
 read_static size left = do
   place ← read_word_at (codes "static") left
   choose (is_word (codes "inline")) (read_static_inlined size left place) ((readers_at size left).specs >>= read_item_of size left (Some place))
 
 -- an item that begins with its type, which the end makes a tag's where it is a tag alone
-unfoldable pub read_item_tag : ℕ → Tag → Reader Item
+unfoldable pub read_item_tag : ℕ → TagSpecifier → Reader ExternalDeclaration
 read_item_tag left tag = do
   closing ← read_mark (codes ";") left
-  give (item.Tag tag)
+  give (item.TagSpecifier tag)
 
-unfoldable pub read_plain_behind : ℕ → ℕ → Specs → Option Tag → Reader Item
+unfoldable pub read_plain_behind : ℕ → ℕ → Specifiers → Option TagSpecifier → Reader ExternalDeclaration
 read_plain_behind size left specs None = read_item_of size left None specs
 read_plain_behind size left specs (Some tag) = choose (is_mark (codes ";")) (read_item_tag left tag) (read_item_of size left None specs)
 
-unfoldable pub read_plain : ℕ → ℕ → Reader Item
+unfoldable pub read_plain : ℕ → ℕ → Reader ExternalDeclaration
 read_plain size left = (readers_at size left).specs >>= λ specs. read_plain_behind size left specs (tag_of specs)
 
 -- ---- items
 
-unfoldable pub read_item : ℕ → ℕ → Reader Item
+unfoldable pub read_item : ℕ → ℕ → Reader ExternalDeclaration
 read_item size left =
     choose (is_word (codes "typedef")) (read_typedef size left)
     (choose (is_word (codes "inline")) (read_inlined size left) (choose (is_word (codes "static")) (read_static size left) (read_plain size left)))
 
 -- the end of the text, with its spelling
-unfoldable pub read_end : ℕ → Reader (List ℕ)
-read_end left = take_as (is_kind End) (λ token. token.text) left
+unfoldable pub read_end : ℕ → Reader Identifier
+read_end left = take_as (is_kind End) named_of left
 
 -- items up to the end
-unfoldable pub read_program : ℕ → ℕ → Reader Program
+unfoldable pub read_program : ℕ → ℕ → Reader ProgramTree
 read_program size left = do
   items ← many size starts_item (read_item size left)
   end ← read_end left
-  give (record { items = items })
+  give (record { items = items; end = end.place })

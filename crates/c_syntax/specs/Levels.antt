@@ -2,7 +2,7 @@
 use Rattle.std.specs.Prelude.{ℕ, zero, suc}
 use Rattle.c_tree.specs.declared.statements.Block.{Block}
 use Rattle.c_tree.specs.declared.statements.Statement.{Statement}
-use Rattle.c_expr.specs.Reading.{Reader, deep}
+use Rattle.c_reader.specs.Reading.{Reader, deep}
 use Rattle.c_syntax.specs.Blocks.{read_braces, read_statement_by}
 
 -- no statement is looked for where no level is left, since the tokens before it are nested as deeply

@@ -1,17 +1,19 @@
 -- How loops are read (C11 6.8.5), each with the bound in front of it, if there is one.
 use Rattle.std.specs.Prelude.{ℕ, Option, Some, None, codes}
+use Rattle.c_tree.specs.StatementFolds.{while_statement, do_statement, for_statement}
 use Rattle.c_tree.specs.declared.token.Token.{Token}
 use Rattle.c_tree.specs.declared.token.TokenKind.TheVariants.{Bound}
 use Rattle.c_tree.specs.declared.statements.First.{First}
 use Rattle.c_tree.specs.declared.statements.First.TheVariants as first
 use Rattle.c_tree.specs.declared.statements.LoopBound.{LoopBound}
-use Rattle.c_tree.specs.declared.statements.Simple.{Simple}
+use Rattle.c_tree.specs.declared.statements.ExpressionStatement.{ExpressionStatement}
 use Rattle.c_tree.specs.declared.statements.Statement.{Statement}
 use Rattle.c_tree.specs.declared.statements.Statement.TheVariants as statement
-use Rattle.c_expr.specs.Reading.{Reader, ◌>>=◌, give, take_as, choose}
-use Rattle.c_expr.specs.Tokens.{is_mark, is_word, is_kind, starts_type, read_mark, read_word, read_word_at}
-use Rattle.c_decl.specs.Simple.{read_simple}
-use Rattle.c_decl.specs.Objects.{read_objects}
+use Rattle.c_reader.specs.Reading.{Reader, ◌>>=◌, give, take_as, choose}
+use Rattle.c_reader.specs.Tokens.{is_mark, is_word, is_kind, read_mark, read_word, read_word_at}
+use Rattle.c_expr.specs.Tokens.{starts_type}
+use Rattle.c_decl.specs.ExpressionStatements.{read_simple}
+use Rattle.c_decl.specs.Declarations.{read_objects}
 use Rattle.c_syntax.specs.Statements.{read_condition, read_unless}
 
 abbrev pub bound_at : Token → LoopBound
@@ -25,7 +27,7 @@ read_while size left read bound = do
   place ← read_word_at (codes "while") left
   condition ← read_condition size left
   body ← read
-  give (statement.While bound place condition body)
+  give (while_statement bound place condition body)
 
 unfoldable pub read_do : ℕ → ℕ → Reader Statement → Option LoopBound → Reader Statement
 read_do size left read bound = do
@@ -34,16 +36,16 @@ read_do size left read bound = do
   word ← read_word (codes "while") left
   condition ← read_condition size left
   closing ← read_mark (codes ";") left
-  give (statement.Do bound place body condition)
+  give (do_statement bound place body condition)
 
 -- ---- for
 
 unfoldable pub read_first : ℕ → ℕ → Reader First
 read_first size left =
     choose (is_mark (codes ";")) (give first.Nothing)
-    (choose starts_type (read_objects size left >>= λ objects. give (first.Objects objects)) (read_simple size left >>= λ value. give (first.Simple value)))
+    (choose starts_type (read_objects size left >>= λ objects. give (first.Declaration objects)) (read_simple size left >>= λ value. give (first.Expression value)))
 
-unfoldable pub read_step : ℕ → ℕ → Reader (Option Simple)
+unfoldable pub read_step : ℕ → ℕ → Reader (Option ExpressionStatement)
 read_step size left = choose (is_mark (codes ")")) (give None) (read_simple size left >>= λ value. give (Some value))
 
 unfoldable pub read_for : ℕ → ℕ → Reader Statement → Option LoopBound → Reader Statement
@@ -57,7 +59,7 @@ read_for size left read bound = do
   step ← read_step size left
   closing ← read_mark (codes ")") left
   body ← read
-  give (statement.For bound place initial condition step body)
+  give (for_statement bound place initial condition step body)
 
 unfoldable pub read_loop_behind : ℕ → ℕ → Reader Statement → Option LoopBound → Reader Statement
 read_loop_behind size left read bound =

@@ -3,7 +3,8 @@ use Rattle.std.specs.Prelude.{ℕ, Bool, ◌||◌, ◌==◌, List, is_some, code
 use Rattle.c_tree.specs.declared.token.Token.{Token}
 use Rattle.c_tree.specs.declared.token.TokenKind.{TokenKind}
 use Rattle.c_tree.specs.declared.token.TokenKind.TheVariants.{Word, Mark, Bound}
-use Rattle.c_expr.specs.Tokens.{kind_number, spelled_by, found_by, expr_by, type_by}
+use Rattle.c_reader.specs.Tokens.{kind_number, spelled_by, found_by}
+use Rattle.c_expr.specs.Tokens.{expr_by, type_by}
 use Rattle.c_decl.specs.Marks.{steps}
 
 -- a loop, or the bound of one

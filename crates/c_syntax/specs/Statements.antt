@@ -1,20 +1,20 @@
 -- How statements are read that are no loops and no blocks (C11 6.8.3, 6.8.4, 6.8.6): each reader is told at most how many tokens a list
 -- has, how many levels of nesting are left for the statement's own tokens, and how the statements in it are read.
 use Rattle.std.specs.Prelude.{ℕ, Bool, ◌&&◌, not, List, ◌∷◌, Option, Some, None, codes}
-use Rattle.c_tree.specs.Statements.{form_of_statement}
+use Rattle.c_tree.specs.StatementFolds.{form_of_statement, if_statement, switch_statement}
 use Rattle.c_tree.specs.declared.token.Place.{Place}
 use Rattle.c_tree.specs.declared.token.Token.{Token}
 use Rattle.c_tree.specs.declared.expressions.Expr.{Expr}
 use Rattle.c_tree.specs.declared.statements.Label.{Label}
 use Rattle.c_tree.specs.declared.statements.Label.TheVariants as label
-use Rattle.c_tree.specs.declared.statements.Section.{Section}
+use Rattle.c_tree.specs.declared.statements.LabelledSection.{LabelledSection}
 use Rattle.c_tree.specs.declared.statements.Statement.{Statement}
 use Rattle.c_tree.specs.declared.statements.Statement.TheVariants as statement
-use Rattle.c_tree.specs.declared.statements.Part.TheViews.{roll-Section}
-use Rattle.c_expr.specs.Reading.{Reader, ◌>>=◌, give, choose, many}
-use Rattle.c_expr.specs.Tokens.{is_mark, is_word, read_mark, read_mark_at, read_word, read_word_at}
+use Rattle.c_tree.specs.declared.statements.BlockItem.TheViews.{roll-LabelledSection}
+use Rattle.c_reader.specs.Reading.{Reader, ◌>>=◌, give, choose, many}
+use Rattle.c_reader.specs.Tokens.{is_mark, is_word, read_mark, read_mark_at, read_word, read_word_at}
 use Rattle.c_expr.specs.Levels.{readers_at}
-use Rattle.c_decl.specs.Simple.{read_simple}
+use Rattle.c_decl.specs.ExpressionStatements.{read_simple}
 use Rattle.c_syntax.specs.Starts.{starts_statement, starts_label}
 
 unfoldable pub read_empty : ℕ → Reader Statement
@@ -26,7 +26,7 @@ unfoldable pub read_simple_statement : ℕ → ℕ → Reader Statement
 read_simple_statement size left = do
   value ← read_simple size left
   closing ← read_mark (codes ";") left
-  give (statement.Simple value)
+  give (statement.Expression value)
 
 unfoldable pub read_break : ℕ → Reader Statement
 read_break left = do
@@ -69,10 +69,10 @@ unfoldable pub read_else : ℕ → Reader Statement → Place → Expr → State
 read_else left read place condition then = do
   word ← read_word (codes "else") left
   otherwise ← read
-  give (statement.If place condition then (Some otherwise))
+  give (if_statement place condition then (Some otherwise))
 
 unfoldable pub read_otherwise : ℕ → Reader Statement → Place → Expr → Statement → Reader Statement
-read_otherwise left read place condition then = choose (is_else_behind then) (read_else left read place condition then) (give (statement.If place condition then None))
+read_otherwise left read place condition then = choose (is_else_behind then) (read_else left read place condition then) (give (if_statement place condition then None))
 
 unfoldable pub read_if : ℕ → ℕ → Reader Statement → Reader Statement
 read_if size left read = do
@@ -100,13 +100,13 @@ unfoldable pub read_label : ℕ → ℕ → Reader Label
 read_label size left = choose (is_word (codes "case")) (read_case size left) (read_default left)
 
 -- labels, one at least, and the statements behind them, one at least
-unfoldable pub read_section : ℕ → ℕ → Reader Statement → Reader Section
+unfoldable pub read_section : ℕ → ℕ → Reader Statement → Reader LabelledSection
 read_section size left read = do
   first ← read_label size left
   labels ← many size starts_label (read_label size left)
   statement ← read
   statements ← many size starts_statement read
-  give (roll-Section (record { labels = first ∷ labels; statements = statement ∷ statements }))
+  give (roll-LabelledSection (record { labels = first ∷ labels; statements = statement ∷ statements }))
 
 unfoldable pub read_switch : ℕ → ℕ → Reader Statement → Reader Statement
 read_switch size left read = do
@@ -115,4 +115,4 @@ read_switch size left read = do
   opening ← read_mark (codes "{") left
   sections ← many size starts_label (read_section size left read)
   closing ← read_mark (codes "}") left
-  give (statement.Switch place value sections)
+  give (switch_statement place value sections)

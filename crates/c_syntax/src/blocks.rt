@@ -2,9 +2,9 @@
 
 ghost use Rattle.std.specs.Prelude.{◌≡◌};
 ghost use Rattle.c_decl.specs.Bare.{tag_of};
-ghost use Rattle.c_expr.specs.Nested.{ReadsBy};
-ghost use Rattle.c_expr.specs.Outcome.{Gives};
-ghost use Rattle.c_expr.specs.Reading as reading;
+ghost use Rattle.c_reader.specs.Nested.{ReadsBy};
+ghost use Rattle.c_reader.specs.Outcome.{Gives};
+ghost use Rattle.c_reader.specs.Reading as reading;
 ghost use Rattle.c_syntax.specs.Blocks as spec;
 ghost use Rattle.c_syntax.specs.Levels.{read_statement};
 ghost use Rattle.c_syntax.specs.Starts as starts;
@@ -15,32 +15,37 @@ use crate::plain::{
 };
 use crate::starts::{starts_loop, starts_part};
 use c_decl::{Rules, bare_tag};
-use c_expr::{Cursor, Unread, many, specs};
-use c_tree::{Block, Part, Specs, Statement, Tag};
-use sqlite_items::Items;
+use c_expr::{sees_type, specs};
+use c_reader::{Cursor, Unread, many};
+use c_tree::{Block, BlockItem, Specifiers, Statement, TagSpecifier};
+use sqlite_items::{Boxed, Items};
 use std::alloc::Global;
 
 /// `objects ";"`, behind their type.
 #[tactic(auto, unfolding(crate::specs::Blocks::read_part_objects))]
-fn objects(rules: Rules, cursor: &mut Cursor<'_>, specs: Specs) -> Result<Part, Unread>
+fn objects(rules: Rules, cursor: &mut Cursor<'_>, specs: Specifiers) -> Result<BlockItem, Unread>
     ensures { Gives (spec.read_part_objects rules.size rules.left specs cursor.old) result cursor.new }
 {
     let objects = rules.objects_of(cursor, specs)?;
     cursor.mark(";", rules.left)?;
-    Ok(Part::Objects(objects))
+    Ok(BlockItem::Declaration(Boxed::new(rules.alloc, objects)?))
 }
 
 /// `";"`, behind a tag.
 #[tactic(auto, unfolding(crate::specs::Blocks::read_part_tag))]
-fn tag_alone(rules: Rules, cursor: &mut Cursor<'_>, tag: Tag) -> Result<Part, Unread>
+fn tag_alone(rules: Rules, cursor: &mut Cursor<'_>, tag: TagSpecifier) -> Result<BlockItem, Unread>
     ensures { Gives (spec.read_part_tag rules.left tag cursor.old) result cursor.new }
 {
     cursor.mark(";", rules.left)?;
-    Ok(Part::Tag(tag))
+    Ok(BlockItem::TagSpecifier(Boxed::new(rules.alloc, tag)?))
 }
 
 /// What stands behind the type of a declaration: its objects, or nothing behind a tag.
-fn part_behind(rules: Rules, cursor: &mut Cursor<'_>, specs: Specs) -> Result<Part, Unread>
+fn part_behind(
+    rules: Rules,
+    cursor: &mut Cursor<'_>,
+    specs: Specifiers,
+) -> Result<BlockItem, Unread>
     ensures { Gives (spec.read_part_behind rules.size rules.left specs (tag_of specs) cursor.old) result cursor.new }
 {
     if !cursor.sees_mark(";") {
@@ -54,7 +59,7 @@ fn part_behind(rules: Rules, cursor: &mut Cursor<'_>, specs: Specs) -> Result<Pa
 
 /// `objects ";" | tag ";"`
 #[tactic(auto, unfolding(crate::specs::Blocks::read_declaration))]
-fn declaration(rules: Rules, cursor: &mut Cursor<'_>) -> Result<Part, Unread>
+fn declaration(rules: Rules, cursor: &mut Cursor<'_>) -> Result<BlockItem, Unread>
     ensures { Gives (spec.read_declaration rules.size rules.left cursor.old) result cursor.new }
 {
     let specs = specs(rules.alloc, cursor, rules.size, rules.left)?;
@@ -63,20 +68,20 @@ fn declaration(rules: Rules, cursor: &mut Cursor<'_>) -> Result<Part, Unread>
 
 impl<F: Fn(Global, &mut Cursor<'_>, usize, u32) -> Result<Statement, Unread>> Inner<F> {
     /// A declaration or a statement.
-    #[tactic(auto, using(c_expr::proofs::Gathering::choose_sees), unfolding(crate::specs::Blocks::read_part))]
-    fn part(&self, cursor: &mut Cursor<'_>) -> Result<Part, Unread>
+    #[tactic(auto, using(c_reader::proofs::Gathering::choose_sees), unfolding(crate::specs::Blocks::read_part))]
+    fn part(&self, cursor: &mut Cursor<'_>) -> Result<BlockItem, Unread>
         requires { ReadsBy (read_statement self.now.rules.size self.now.rules.left) self.now.rules.size self.now.rules.left (F.pre self.now.statement) (F.post self.now.statement) }
         ensures { Gives (spec.read_part self.now.rules.size self.now.rules.left (read_statement self.now.rules.size self.now.rules.left) cursor.old) result cursor.new }
     {
-        if cursor.sees_type() {
+        if sees_type(cursor) {
             return declaration(self.rules, cursor);
         }
         let value = self.nested(cursor)?;
-        Ok(Part::Statement(value))
+        Ok(BlockItem::Statement(value))
     }
 
     /// Declarations and statements.
-    fn parts(&self, cursor: &mut Cursor<'_>) -> Result<Items<Part>, Unread>
+    fn parts(&self, cursor: &mut Cursor<'_>) -> Result<Items<BlockItem>, Unread>
         requires { ReadsBy (read_statement self.now.rules.size self.now.rules.left) self.now.rules.size self.now.rules.left (F.pre self.now.statement) (F.post self.now.statement) }
         ensures { Gives (reading.many self.now.rules.size starts.starts_part (spec.read_part self.now.rules.size self.now.rules.left (read_statement self.now.rules.size self.now.rules.left)) cursor.old) result cursor.new }
     {
@@ -102,14 +107,14 @@ impl<F: Fn(Global, &mut Cursor<'_>, usize, u32) -> Result<Statement, Unread>> In
     }
 
     /// A statement, by its first token.
-    #[tactic(auto, using(c_expr::proofs::Gathering::choose_sees), unfolding(crate::specs::Blocks::read_statement_by))]
+    #[tactic(auto, using(c_reader::proofs::Gathering::choose_sees), unfolding(crate::specs::Blocks::read_statement_by))]
     pub fn statement(&self, cursor: &mut Cursor<'_>) -> Result<Statement, Unread>
         requires { ReadsBy (read_statement self.now.rules.size self.now.rules.left) self.now.rules.size self.now.rules.left (F.pre self.now.statement) (F.post self.now.statement) }
         ensures { Gives (spec.read_statement_by self.now.rules.size self.now.rules.left (read_statement self.now.rules.size self.now.rules.left) cursor.old) result cursor.new }
     {
         if cursor.sees_mark("{") {
             let block = self.braces(cursor)?;
-            return Ok(Statement::Block(block));
+            return Ok(Statement::Block(Boxed::new(self.rules.alloc, block)?));
         }
         if cursor.sees_mark(";") {
             empty(self.rules, cursor)

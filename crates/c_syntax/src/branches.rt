@@ -1,10 +1,10 @@
 //! `if` and `switch` (C11 6.8.4).
 
 ghost use Rattle.std.specs.Prelude.{◌≡◌, ◌∷◌, ◌++◌, None, IfOk};
-ghost use Rattle.c_tree.specs.Statements.{form_of_statement};
-ghost use Rattle.c_expr.specs.Nested.{ReadsBy};
-ghost use Rattle.c_expr.specs.Outcome.{Gives};
-ghost use Rattle.c_expr.specs.Reading as reading;
+ghost use Rattle.c_tree.specs.StatementFolds.{form_of_statement, form_of_selection, form_of_iteration, if_statement};
+ghost use Rattle.c_reader.specs.Nested.{ReadsBy};
+ghost use Rattle.c_reader.specs.Outcome.{Gives};
+ghost use Rattle.c_reader.specs.Reading as reading;
 ghost use Rattle.c_syntax.specs.Levels.{read_statement};
 ghost use Rattle.c_syntax.specs.Starts as starts;
 ghost use Rattle.c_syntax.specs.Statements as spec;
@@ -12,23 +12,50 @@ ghost use Rattle.c_syntax.specs.Statements as spec;
 use crate::inner::Inner;
 use crate::plain::{condition, label};
 use crate::starts::{starts_label, starts_statement};
-use c_expr::{Cursor, Unread, many, many_behind, only};
-use c_tree::{Expr, Label, Place, Section, Statement};
+use c_reader::{Cursor, Unread, many, many_behind, only};
+use c_tree::{Expr, Iteration, Label, LabelledSection, Place, Selection, Statement};
 use hy_bits::Memory;
 use sqlite_items::{Boxed, Items};
 use std::alloc::Global;
 
 /// Whether an `else` could follow the statement, since it ends with an `if` that has none. The time is that of its depth.
+#[cycle(open)]
 pub fn is_open(statement: &Statement) -> bool
     ensures { result ≡ (form_of_statement statement.now).open_ }
 {
     match statement {
-        Statement::If(_, _, _, None) => true,
-        Statement::If(_, _, _, Some(otherwise)) => is_open(otherwise.get()),
-        Statement::While(_, _, _, body) | Statement::For(_, _, _, _, _, body) => is_open(
-            body.get(),
-        ),
+        Statement::Selection(parts) => is_open_selection(parts.get()),
+        Statement::Iteration(parts) => is_open_iteration(parts.get()),
         _ => false,
+    }
+}
+
+/// Whether an `else` could follow the selection statement.
+#[cycle(open)]
+fn is_open_selection(selection: &Selection) -> bool
+    ensures { result ≡ (form_of_selection selection.now).open_ }
+{
+    match selection {
+        Selection::If {
+            otherwise: None,
+            ..
+        } => true,
+        Selection::If {
+            otherwise: Some(otherwise),
+            ..
+        } => is_open(otherwise),
+        Selection::Switch { .. } => false,
+    }
+}
+
+/// Whether an `else` could follow the iteration statement.
+#[cycle(open)]
+fn is_open_iteration(iteration: &Iteration) -> bool
+    ensures { result ≡ (form_of_iteration iteration.now).open_ }
+{
+    match iteration {
+        Iteration::While { body, .. } | Iteration::For { body, .. } => is_open(body),
+        Iteration::Do { .. } => false,
     }
 }
 
@@ -39,9 +66,15 @@ fn without_else(
     condition: Expr,
     then: Statement,
 ) -> Result<Statement, Memory>
-    ensures { IfOk result (λ s. s ≡ Statement.If place condition then None) }
+    ensures { IfOk result (λ s. s ≡ if_statement place condition then None) }
 {
-    Ok(Statement::If(place, condition, Boxed::new(alloc, then)?, None))
+    let parts = Selection::If {
+        place,
+        condition,
+        then,
+        otherwise: None,
+    };
+    Ok(Statement::Selection(Boxed::new(alloc, parts)?))
 }
 
 impl<F: Fn(Global, &mut Cursor<'_>, usize, u32) -> Result<Statement, Unread>> Inner<F> {
@@ -59,12 +92,13 @@ impl<F: Fn(Global, &mut Cursor<'_>, usize, u32) -> Result<Statement, Unread>> In
     {
         cursor.word("else", self.rules.left)?;
         let otherwise = self.nested(cursor)?;
-        Ok(Statement::If(
+        let parts = Selection::If {
             place,
             condition,
-            Boxed::new(self.rules.alloc, then)?,
-            Some(Boxed::new(self.rules.alloc, otherwise)?),
-        ))
+            then,
+            otherwise: Some(otherwise),
+        };
+        Ok(Statement::Selection(Boxed::new(self.rules.alloc, parts)?))
     }
 
     /// `["else" statement]`, behind the first part: an `else` belongs to the nearest `if`.
@@ -136,7 +170,7 @@ impl<F: Fn(Global, &mut Cursor<'_>, usize, u32) -> Result<Statement, Unread>> In
 
     /// `label+ statement statement*`
     #[tactic(auto, unfolding(crate::specs::Statements::read_section))]
-    fn section(&self, cursor: &mut Cursor<'_>) -> Result<Section, Unread>
+    fn section(&self, cursor: &mut Cursor<'_>) -> Result<LabelledSection, Unread>
         requires { ReadsBy (read_statement self.now.rules.size self.now.rules.left) self.now.rules.size self.now.rules.left (F.pre self.now.statement) (F.post self.now.statement) }
         ensures { Gives (spec.read_section self.now.rules.size self.now.rules.left (read_statement self.now.rules.size self.now.rules.left) cursor.old) result cursor.new }
     {
@@ -144,11 +178,11 @@ impl<F: Fn(Global, &mut Cursor<'_>, usize, u32) -> Result<Statement, Unread>> In
         let labels = self.more_labels(cursor, only(self.rules.alloc, first)?)?;
         let statement = self.nested(cursor)?;
         let statements = self.more_statements(cursor, only(self.rules.alloc, statement)?)?;
-        Ok(Section { labels, statements })
+        Ok(LabelledSection { labels, statements })
     }
 
     /// `(label+ statement statement*)*`
-    fn sections(&self, cursor: &mut Cursor<'_>) -> Result<Items<Section>, Unread>
+    fn sections(&self, cursor: &mut Cursor<'_>) -> Result<Items<LabelledSection>, Unread>
         requires { ReadsBy (read_statement self.now.rules.size self.now.rules.left) self.now.rules.size self.now.rules.left (F.pre self.now.statement) (F.post self.now.statement) }
         ensures { Gives (reading.many self.now.rules.size starts.starts_label (spec.read_section self.now.rules.size self.now.rules.left (read_statement self.now.rules.size self.now.rules.left)) cursor.old) result cursor.new }
     {
@@ -172,6 +206,11 @@ impl<F: Fn(Global, &mut Cursor<'_>, usize, u32) -> Result<Statement, Unread>> In
         cursor.mark("{", self.rules.left)?;
         let sections = self.sections(cursor)?;
         cursor.mark("}", self.rules.left)?;
-        Ok(Statement::Switch(place, value, sections))
+        let parts = Selection::Switch {
+            place,
+            value,
+            sections,
+        };
+        Ok(Statement::Selection(Boxed::new(self.rules.alloc, parts)?))
     }
 }

@@ -1,12 +1,12 @@
 //! What the rules of statements need that hold statements.
 
 ghost use Rattle.std.specs.Prelude.{◌≡◌};
-ghost use Rattle.c_expr.specs.Nested.{ReadsBy};
-ghost use Rattle.c_expr.specs.Outcome.{Gives};
+ghost use Rattle.c_reader.specs.Nested.{ReadsBy};
+ghost use Rattle.c_reader.specs.Outcome.{Gives};
 ghost use Rattle.c_syntax.specs.Levels.{read_statement};
 
 use c_decl::Rules;
-use c_expr::{Cursor, Unread};
+use c_reader::{Cursor, Unread};
 use c_tree::Statement;
 use std::alloc::Global;
 

@@ -2,10 +2,10 @@
 
 ghost use Rattle.std.specs.Prelude.{◌≡◌, ◌<◌, ◌++◌, None, codes};
 ghost use Rattle.c_decl.specs.Bare.{tag_of};
-ghost use Rattle.c_expr.specs.Outcome.{Gives};
-ghost use Rattle.c_expr.specs.Reading as reading;
-ghost use Rattle.c_expr.specs.Reading.{choose, give};
-ghost use Rattle.c_expr.specs.Tokens.{is_word as is_word_of};
+ghost use Rattle.c_reader.specs.Outcome.{Gives};
+ghost use Rattle.c_reader.specs.Reading as reading;
+ghost use Rattle.c_reader.specs.Reading.{choose, give};
+ghost use Rattle.c_reader.specs.Tokens.{is_word as is_word_of};
 ghost use Rattle.c_syntax.specs.Items as spec;
 ghost use Rattle.c_syntax.specs.Outcome.{Ends};
 ghost use Rattle.c_syntax.specs.Starts as starts;
@@ -13,15 +13,17 @@ ghost use Rattle.c_syntax.specs.Starts as starts;
 use crate::nesting::block;
 use crate::starts::starts_item;
 use c_decl::{Rules, bare_tag};
-use c_expr::{Cursor, Unread, is_word, many, many_behind, only, specs};
+use c_expr::specs;
+use c_reader::{Cursor, Unread, is_word, many, many_behind, only};
 use c_tree::{
-    Function, Item, Named, Place, Pointer, Program, Specs, Static, Tag, TokenKind, Words,
+    ExternalDeclaration, Function, FunctionSpecifiers, Identifier, Place, Pointer, Specifiers,
+    StaticSpecifier, TagSpecifier, TokenKind,
 };
-use sqlite_items::Items;
+use sqlite_items::{Boxed, Items};
 
 /// `"typedef" specs NAME dims ";"`
 #[tactic(auto, unfolding(crate::specs::Items::read_typedef))]
-fn typedef(rules: Rules, cursor: &mut Cursor<'_>) -> Result<Item, Unread>
+fn typedef(rules: Rules, cursor: &mut Cursor<'_>) -> Result<ExternalDeclaration, Unread>
     ensures { Gives (spec.read_typedef rules.size rules.left cursor.old) result cursor.new }
 {
     let place = cursor.word_at("typedef", rules.left)?;
@@ -29,7 +31,12 @@ fn typedef(rules: Rules, cursor: &mut Cursor<'_>) -> Result<Item, Unread>
     let name = cursor.name(rules.alloc, rules.left)?;
     let dimensions = rules.bounds(cursor)?;
     cursor.mark(";", rules.left)?;
-    Ok(Item::Typedef(place, specs, name, dimensions))
+    Ok(ExternalDeclaration::Typedef {
+        place,
+        specs: Boxed::new(rules.alloc, specs)?,
+        name,
+        dimensions,
+    })
 }
 
 /// `"(" ["void" | param ("," param)*] ")" block`, behind the name of a function.
@@ -37,28 +44,33 @@ fn typedef(rules: Rules, cursor: &mut Cursor<'_>) -> Result<Item, Unread>
 fn function_behind(
     rules: Rules,
     cursor: &mut Cursor<'_>,
-    words: Words,
-    specs: Specs,
-    name: Named,
-) -> Result<Item, Unread>
+    words: FunctionSpecifiers,
+    specs: Specifiers,
+    name: Identifier,
+) -> Result<ExternalDeclaration, Unread>
     ensures { Gives (spec.read_function_behind rules.size rules.left words specs name cursor.old) result cursor.new }
 {
     cursor.mark("(", rules.left)?;
     let parameters = rules.parameters(cursor)?;
     cursor.mark(")", rules.left)?;
     let body = block(rules, cursor)?;
-    Ok(Item::Function(Function {
+    let function = Function {
         words,
         specs,
         name,
         parameters,
         body,
-    }))
+    };
+    Ok(ExternalDeclaration::Function(Boxed::new(rules.alloc, function)?))
 }
 
 /// `specs NAME` and what stands behind the name of a function.
 #[tactic(auto, unfolding(crate::specs::Items::read_function_of))]
-fn function_of(rules: Rules, cursor: &mut Cursor<'_>, words: Words) -> Result<Item, Unread>
+fn function_of(
+    rules: Rules,
+    cursor: &mut Cursor<'_>,
+    words: FunctionSpecifiers,
+) -> Result<ExternalDeclaration, Unread>
     ensures { Gives (spec.read_function_of rules.size rules.left words cursor.old) result cursor.new }
 {
     let specs = specs(rules.alloc, cursor, rules.size, rules.left)?;
@@ -99,17 +111,17 @@ fn more_inlines(
 
 /// `"static" "inline"*`
 #[tactic(auto, unfolding(crate::specs::Items::read_fixed))]
-fn fixed(rules: Rules, cursor: &mut Cursor<'_>) -> Result<Option<Static>, Unread>
+fn fixed(rules: Rules, cursor: &mut Cursor<'_>) -> Result<Option<StaticSpecifier>, Unread>
     ensures { Gives (spec.read_fixed rules.size rules.left cursor.old) result cursor.new }
 {
     let place = cursor.word_at("static", rules.left)?;
     let inline = inlines(rules, cursor)?;
-    Ok(Some(Static { place, inline }))
+    Ok(Some(StaticSpecifier { place, inline }))
 }
 
 /// `["static" "inline"*]`
-#[tactic(auto, using(c_expr::proofs::Gathering::choose_sees))]
-fn fixed_or_not(rules: Rules, cursor: &mut Cursor<'_>) -> Result<Option<Static>, Unread>
+#[tactic(auto, using(c_reader::proofs::Gathering::choose_sees))]
+fn fixed_or_not(rules: Rules, cursor: &mut Cursor<'_>) -> Result<Option<StaticSpecifier>, Unread>
     ensures { Gives (choose (is_word_of (codes "static")) (spec.read_fixed rules.size rules.left) (give None) cursor.old) result cursor.new }
 {
     if cursor.sees_word("static") {
@@ -121,27 +133,27 @@ fn fixed_or_not(rules: Rules, cursor: &mut Cursor<'_>) -> Result<Option<Static>,
 
 /// A function that begins with `inline`.
 #[tactic(auto, unfolding(crate::specs::Items::read_inlined))]
-fn inlined(rules: Rules, cursor: &mut Cursor<'_>) -> Result<Item, Unread>
+fn inlined(rules: Rules, cursor: &mut Cursor<'_>) -> Result<ExternalDeclaration, Unread>
     ensures { Gives (spec.read_inlined rules.size rules.left cursor.old) result cursor.new }
 {
     let first = cursor.word_at("inline", rules.left)?;
     let inline = more_inlines(rules, cursor, only(rules.alloc, first)?)?;
     let fixed = fixed_or_not(rules, cursor)?;
-    function_of(rules, cursor, Words { inline, fixed })
+    function_of(rules, cursor, FunctionSpecifiers { inline, fixed })
 }
 
 /// The words of a function that has `static` at this place, if it has it, and no `inline`.
-fn words_of(rules: Rules, place: Option<Place>) -> Words
+fn words_of(rules: Rules, place: Option<Place>) -> FunctionSpecifiers
     ensures { result ≡ spec.words_of place }
 {
     let fixed = match place {
-        Some(place) => Some(Static {
+        Some(place) => Some(StaticSpecifier {
             place,
             inline: Items::new(rules.alloc),
         }),
         None => None,
     };
-    Words {
+    FunctionSpecifiers {
         inline: Items::new(rules.alloc),
         fixed,
     }
@@ -153,15 +165,15 @@ fn objects_behind(
     rules: Rules,
     cursor: &mut Cursor<'_>,
     fixed: Option<Place>,
-    specs: Specs,
+    specs: Specifiers,
     pointer: Option<Pointer>,
-    name: Named,
-) -> Result<Item, Unread>
+    name: Identifier,
+) -> Result<ExternalDeclaration, Unread>
     ensures { Gives (spec.read_item_objects rules.size rules.left fixed specs pointer name cursor.old) result cursor.new }
 {
     let objects = rules.objects_behind(cursor, specs, pointer, name)?;
     cursor.mark(";", rules.left)?;
-    Ok(Item::Objects(fixed, objects))
+    Ok(ExternalDeclaration::Declaration(fixed, Boxed::new(rules.alloc, objects)?))
 }
 
 /// What stands behind the first declared name, which is a function's where it is no pointer's and a bracket opens.
@@ -169,10 +181,10 @@ fn item_behind(
     rules: Rules,
     cursor: &mut Cursor<'_>,
     fixed: Option<Place>,
-    specs: Specs,
+    specs: Specifiers,
     pointer: Option<Pointer>,
-    name: Named,
-) -> Result<Item, Unread>
+    name: Identifier,
+) -> Result<ExternalDeclaration, Unread>
     ensures { Gives (spec.read_item_behind rules.size rules.left fixed specs pointer name cursor.old) result cursor.new }
 {
     if pointer.is_some() || !cursor.sees_mark("(") {
@@ -182,14 +194,14 @@ fn item_behind(
     function_behind(rules, cursor, words, specs, name)
 }
 
-/// Objects of a type, or a function.
+/// Declaration of a type, or a function.
 #[tactic(auto, unfolding(crate::specs::Items::read_item_of))]
 fn item_of(
     rules: Rules,
     cursor: &mut Cursor<'_>,
     fixed: Option<Place>,
-    specs: Specs,
-) -> Result<Item, Unread>
+    specs: Specifiers,
+) -> Result<ExternalDeclaration, Unread>
     ensures { Gives (spec.read_item_of rules.size rules.left fixed specs cursor.old) result cursor.new }
 {
     let pointer = rules.pointer(cursor)?;
@@ -199,21 +211,25 @@ fn item_of(
 
 /// A function that has `static` at this place and `inline` behind it.
 #[tactic(auto, unfolding(crate::specs::Items::read_static_inlined))]
-fn static_inlined(rules: Rules, cursor: &mut Cursor<'_>, place: Place) -> Result<Item, Unread>
+fn static_inlined(
+    rules: Rules,
+    cursor: &mut Cursor<'_>,
+    place: Place,
+) -> Result<ExternalDeclaration, Unread>
     ensures { Gives (spec.read_static_inlined rules.size rules.left place cursor.old) result cursor.new }
 {
     let first = cursor.word_at("inline", rules.left)?;
     let inline = more_inlines(rules, cursor, only(rules.alloc, first)?)?;
-    let words = Words {
+    let words = FunctionSpecifiers {
         inline: Items::new(rules.alloc),
-        fixed: Some(Static { place, inline }),
+        fixed: Some(StaticSpecifier { place, inline }),
     };
     function_of(rules, cursor, words)
 }
 
 /// An item that begins with `static`.
-#[tactic(auto, using(c_expr::proofs::Gathering::choose_sees), unfolding(crate::specs::Items::read_static))]
-fn static_item(rules: Rules, cursor: &mut Cursor<'_>) -> Result<Item, Unread>
+#[tactic(auto, using(c_reader::proofs::Gathering::choose_sees), unfolding(crate::specs::Items::read_static))]
+fn static_item(rules: Rules, cursor: &mut Cursor<'_>) -> Result<ExternalDeclaration, Unread>
     ensures { Gives (spec.read_static rules.size rules.left cursor.old) result cursor.new }
 {
     let place = cursor.word_at("static", rules.left)?;
@@ -226,15 +242,23 @@ fn static_item(rules: Rules, cursor: &mut Cursor<'_>) -> Result<Item, Unread>
 
 /// `";"`, behind a tag.
 #[tactic(auto, unfolding(crate::specs::Items::read_item_tag))]
-fn tag_alone(rules: Rules, cursor: &mut Cursor<'_>, tag: Tag) -> Result<Item, Unread>
+fn tag_alone(
+    rules: Rules,
+    cursor: &mut Cursor<'_>,
+    tag: TagSpecifier,
+) -> Result<ExternalDeclaration, Unread>
     ensures { Gives (spec.read_item_tag rules.left tag cursor.old) result cursor.new }
 {
     cursor.mark(";", rules.left)?;
-    Ok(Item::Tag(tag))
+    Ok(ExternalDeclaration::TagSpecifier(Boxed::new(rules.alloc, tag)?))
 }
 
 /// What stands behind the type of an item: objects or a function, or nothing behind a tag.
-fn plain_behind(rules: Rules, cursor: &mut Cursor<'_>, specs: Specs) -> Result<Item, Unread>
+fn plain_behind(
+    rules: Rules,
+    cursor: &mut Cursor<'_>,
+    specs: Specifiers,
+) -> Result<ExternalDeclaration, Unread>
     ensures { Gives (spec.read_plain_behind rules.size rules.left specs (tag_of specs) cursor.old) result cursor.new }
 {
     if !cursor.sees_mark(";") {
@@ -248,7 +272,7 @@ fn plain_behind(rules: Rules, cursor: &mut Cursor<'_>, specs: Specs) -> Result<I
 
 /// An item that begins with its type.
 #[tactic(auto, unfolding(crate::specs::Items::read_plain))]
-fn plain(rules: Rules, cursor: &mut Cursor<'_>) -> Result<Item, Unread>
+fn plain(rules: Rules, cursor: &mut Cursor<'_>) -> Result<ExternalDeclaration, Unread>
     ensures { Gives (spec.read_plain rules.size rules.left cursor.old) result cursor.new }
 {
     let specs = specs(rules.alloc, cursor, rules.size, rules.left)?;
@@ -256,8 +280,8 @@ fn plain(rules: Rules, cursor: &mut Cursor<'_>) -> Result<Item, Unread>
 }
 
 /// An item, by its first token.
-#[tactic(auto, using(c_expr::proofs::Gathering::choose_sees), unfolding(crate::specs::Items::read_item))]
-fn item(rules: Rules, cursor: &mut Cursor<'_>) -> Result<Item, Unread>
+#[tactic(auto, using(c_reader::proofs::Gathering::choose_sees), unfolding(crate::specs::Items::read_item))]
+fn item(rules: Rules, cursor: &mut Cursor<'_>) -> Result<ExternalDeclaration, Unread>
     ensures { Gives (spec.read_item rules.size rules.left cursor.old) result cursor.new }
 {
     if cursor.sees_word("typedef") {
@@ -272,7 +296,7 @@ fn item(rules: Rules, cursor: &mut Cursor<'_>) -> Result<Item, Unread>
 }
 
 /// Items.
-fn items(rules: Rules, cursor: &mut Cursor<'_>) -> Result<Items<Item>, Unread>
+fn items(rules: Rules, cursor: &mut Cursor<'_>) -> Result<Items<ExternalDeclaration>, Unread>
     ensures { Gives (reading.many rules.size starts.starts_item (spec.read_item rules.size rules.left) cursor.old) result cursor.new }
 {
     many(
@@ -284,15 +308,18 @@ fn items(rules: Rules, cursor: &mut Cursor<'_>) -> Result<Items<Item>, Unread>
     )
 }
 
-/// Items up to the end of the text, which is left.
+/// Items up to the end of the text, which is left, and its place.
 #[tactic(auto, using(crate::proofs::Reading::program_ends, crate::proofs::Reading::program_goes_on), unfolding(crate::specs::Items::read_program))]
-pub fn program(rules: Rules, cursor: &mut Cursor<'_>) -> Result<Program, Unread>
+pub fn program(
+    rules: Rules,
+    cursor: &mut Cursor<'_>,
+) -> Result<(Items<ExternalDeclaration>, Place), Unread>
     requires { 0 < rules.left }
     ensures { Ends (spec.read_program rules.size rules.left cursor.old) result cursor.new }
 {
     let items = items(rules, cursor)?;
     if cursor.sees_kind(TokenKind::End) {
-        Ok(Program { items })
+        Ok((items, cursor.peek().place))
     } else {
         Err(Unread::Bad)
     }

@@ -1,18 +1,19 @@
 //! Loops, with the bounds in front of them (C11 6.8.5).
 
 ghost use Rattle.std.specs.Prelude.{◌≡◌};
-ghost use Rattle.c_expr.specs.Nested.{ReadsBy};
-ghost use Rattle.c_expr.specs.Outcome.{Gives};
-ghost use Rattle.c_expr.specs.Reading.{take_as};
-ghost use Rattle.c_expr.specs.Tokens as tokens;
+ghost use Rattle.c_reader.specs.Nested.{ReadsBy};
+ghost use Rattle.c_reader.specs.Outcome.{Gives};
+ghost use Rattle.c_reader.specs.Reading.{take_as};
+ghost use Rattle.c_reader.specs.Tokens as tokens;
 ghost use Rattle.c_syntax.specs.Levels.{read_statement};
 ghost use Rattle.c_syntax.specs.Loops as spec;
 
 use crate::inner::Inner;
 use crate::plain::{condition, unless};
 use c_decl::Rules;
-use c_expr::{Cursor, Unread, is_kind};
-use c_tree::{First, LoopBound, Simple, Statement, TokenKind};
+use c_expr::sees_type;
+use c_reader::{Cursor, Unread, is_kind};
+use c_tree::{ExpressionStatement, First, Iteration, LoopBound, Statement, TokenKind};
 use sqlite_items::Boxed;
 use std::alloc::Global;
 
@@ -29,7 +30,7 @@ fn bound_at(rules: Rules, cursor: &mut Cursor<'_>) -> Result<LoopBound, Unread>
 }
 
 /// `[BOUND]`
-#[tactic(auto, using(c_expr::proofs::Gathering::choose_sees), unfolding(crate::specs::Loops::read_bound))]
+#[tactic(auto, using(c_reader::proofs::Gathering::choose_sees), unfolding(crate::specs::Loops::read_bound))]
 fn bound(rules: Rules, cursor: &mut Cursor<'_>) -> Result<Option<LoopBound>, Unread>
     ensures { Gives (spec.read_bound rules.left cursor.old) result cursor.new }
 {
@@ -41,24 +42,24 @@ fn bound(rules: Rules, cursor: &mut Cursor<'_>) -> Result<Option<LoopBound>, Unr
 }
 
 /// `[objects | simple]`, in front of a semicolon.
-#[tactic(auto, using(c_expr::proofs::Gathering::choose_sees), unfolding(crate::specs::Loops::read_first))]
+#[tactic(auto, using(c_reader::proofs::Gathering::choose_sees), unfolding(crate::specs::Loops::read_first))]
 fn first(rules: Rules, cursor: &mut Cursor<'_>) -> Result<First, Unread>
     ensures { Gives (spec.read_first rules.size rules.left cursor.old) result cursor.new }
 {
     if cursor.sees_mark(";") {
         return Ok(First::Nothing);
     }
-    if cursor.sees_type() {
+    if sees_type(cursor) {
         let objects = rules.objects(cursor)?;
-        return Ok(First::Objects(objects));
+        return Ok(First::Declaration(objects));
     }
     let value = rules.simple(cursor)?;
-    Ok(First::Simple(value))
+    Ok(First::Expression(value))
 }
 
 /// `[simple]`, in front of a closing bracket.
-#[tactic(auto, using(c_expr::proofs::Gathering::choose_sees), unfolding(crate::specs::Loops::read_step))]
-fn step(rules: Rules, cursor: &mut Cursor<'_>) -> Result<Option<Simple>, Unread>
+#[tactic(auto, using(c_reader::proofs::Gathering::choose_sees), unfolding(crate::specs::Loops::read_step))]
+fn step(rules: Rules, cursor: &mut Cursor<'_>) -> Result<Option<ExpressionStatement>, Unread>
     ensures { Gives (spec.read_step rules.size rules.left cursor.old) result cursor.new }
 {
     if cursor.sees_mark(")") {
@@ -82,7 +83,13 @@ impl<F: Fn(Global, &mut Cursor<'_>, usize, u32) -> Result<Statement, Unread>> In
         let place = cursor.word_at("while", self.rules.left)?;
         let value = condition(self.rules, cursor)?;
         let body = self.nested(cursor)?;
-        Ok(Statement::While(bound, place, value, Boxed::new(self.rules.alloc, body)?))
+        let parts = Iteration::While {
+            bound,
+            place,
+            condition: value,
+            body,
+        };
+        Ok(Statement::Iteration(Boxed::new(self.rules.alloc, parts)?))
     }
 
     /// `"do" statement "while" "(" expr ")" ";"`, behind its bound.
@@ -100,7 +107,13 @@ impl<F: Fn(Global, &mut Cursor<'_>, usize, u32) -> Result<Statement, Unread>> In
         cursor.word("while", self.rules.left)?;
         let value = condition(self.rules, cursor)?;
         cursor.mark(";", self.rules.left)?;
-        Ok(Statement::Do(bound, place, Boxed::new(self.rules.alloc, body)?, value))
+        let parts = Iteration::Do {
+            bound,
+            place,
+            body,
+            condition: value,
+        };
+        Ok(Statement::Iteration(Boxed::new(self.rules.alloc, parts)?))
     }
 
     /// `"for" "(" [objects | simple] ";" [expr] ";" [simple] ")" statement`, behind its bound.
@@ -122,18 +135,19 @@ impl<F: Fn(Global, &mut Cursor<'_>, usize, u32) -> Result<Statement, Unread>> In
         let step = step(self.rules, cursor)?;
         cursor.mark(")", self.rules.left)?;
         let body = self.nested(cursor)?;
-        Ok(Statement::For(
+        let parts = Iteration::For {
             bound,
             place,
-            initial,
+            first: initial,
             condition,
             step,
-            Boxed::new(self.rules.alloc, body)?,
-        ))
+            body,
+        };
+        Ok(Statement::Iteration(Boxed::new(self.rules.alloc, parts)?))
     }
 
     /// `[BOUND]` and the loop behind it.
-    #[tactic(auto, using(c_expr::proofs::Gathering::choose_sees), unfolding(crate::specs::Loops::read_loop, crate::specs::Loops::read_loop_behind))]
+    #[tactic(auto, using(c_reader::proofs::Gathering::choose_sees), unfolding(crate::specs::Loops::read_loop, crate::specs::Loops::read_loop_behind))]
     pub fn loop_statement(&self, cursor: &mut Cursor<'_>) -> Result<Statement, Unread>
         requires { ReadsBy (read_statement self.now.rules.size self.now.rules.left) self.now.rules.size self.now.rules.left (F.pre self.now.statement) (F.post self.now.statement) }
         ensures { Gives (spec.read_loop self.now.rules.size self.now.rules.left (read_statement self.now.rules.size self.now.rules.left) cursor.old) result cursor.new }

@@ -1,12 +1,12 @@
 //! Statements and blocks where so many levels of nesting are left: a statement's own tokens are nested in it.
 
 ghost use Rattle.std.specs.Prelude.{◌≡◌};
-ghost use Rattle.c_expr.specs.Outcome.{Gives};
+ghost use Rattle.c_reader.specs.Outcome.{Gives};
 ghost use Rattle.c_syntax.specs.Levels.{read_statement, read_block};
 
 use crate::inner::Inner;
 use c_decl::Rules;
-use c_expr::{Cursor, Unread};
+use c_reader::{Cursor, Unread};
 use c_tree::{Block, Statement};
 use std::alloc::Global;
 

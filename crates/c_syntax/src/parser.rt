@@ -3,17 +3,18 @@
 ghost use Rattle.std.specs.Prelude.{◌≡◌, ◌+◌, ◌^◌, ◌<◌, true, ◌++◌, ◌∷◌, [], length, IfOk, IfErr, MatchResult};
 ghost use Rattle.c_tree.specs.TokenLists.{is_closed};
 ghost use Rattle.c_tree.specs.declared.token.Token.{Token};
-ghost use Rattle.c_tree.specs.declared.programs.Program.{Program};
-ghost use Rattle.c_expr.specs.Alone.{fault_of};
-ghost use Rattle.c_expr.specs.Runs.{AreShallow};
-ghost use Rattle.c_expr.specs.Samples as samples;
+ghost use Rattle.c_tree.specs.Programs.{ProgramTree};
+ghost use Rattle.c_reader.specs.Alone.{fault_of};
+ghost use Rattle.c_reader.specs.Depths.{AreShallow};
+ghost use Rattle.c_reader.specs.Samples as samples;
 ghost use Rattle.c_syntax.specs.Items.{read_program};
-ghost use Rattle.c_syntax.specs.Outcome.{IsParsed, IsFaultOf};
-ghost use Rattle.c_syntax.specs.Programs.{pieces_of, IsSpelled};
+ghost use Rattle.c_reader.specs.Firsts.{IsFaultOf};
+ghost use Rattle.c_syntax.specs.Outcome.{IsParsed};
+ghost use Rattle.c_syntax.specs.Programs.{pieces_of, IsSpelled, ProgramAt};
 
 use crate::items::program;
 use c_decl::Rules;
-use c_expr::{Cursor, Sample, SyntaxFault, Unread, fault_at, names_construct};
+use c_reader::{Cursor, Sample, SyntaxFault, Unread, fault_at, names_construct};
 use c_tree::{Program, Token, Tokens};
 use hy_bits::Memory;
 use std::alloc::Global;
@@ -43,7 +44,7 @@ fn can_stand(alloc: Global, before: &[Token], size: usize, sample: Sample) -> Re
 }
 
 /// The fault at a token that can't be used behind these.
-#[tactic(auto, using(c_expr::proofs::Ending::probe_closed), unfolding(c_expr::specs::Alone::fault_of))]
+#[tactic(auto, using(c_reader::proofs::Ending::probe_closed), unfolding(c_reader::specs::Alone::fault_of))]
 fn fault_behind(
     alloc: Global,
     before: &[Token],
@@ -62,16 +63,21 @@ fn fault_behind(
     fault_at(alloc, token, construct)
 }
 
-/// The program of these tokens, or why there is none. The time is linear in the tokens, and where they are no program,
-/// in what is asked of at most three more lists of no more tokens.
-#[tactic(auto, unfolding(crate::specs::Outcome::IsFaultOf))]
+/// The program of `tokens`. The time is linear in the number of tokens.
+///
+/// # Errors
+///
+/// `Expected` and `Construct` stand at the first token with which no program begins, `Deep` before it at the first token
+/// that is nested too deeply. Where there is a fault, at most three more lists of no more tokens are read. `Memory` tells
+/// that memory ran out.
+#[tactic(auto, unfolding(c_reader::specs::Firsts::IsFaultOf))]
 pub fn parse(alloc: Global, tokens: &Tokens) -> Result<Program, SyntaxFault>
     // The tokens are those of the program and the end, and none is nested more deeply than 200.
     ensures parsed { IfOk result (λ program. IsParsed tokens.now program) }
     // The fault is at the first token with which no program begins, or before it at one that is nested too deeply.
-    ensures fault { IfErr result (λ fault. IsFaultOf tokens.now fault) }
+    ensures fault { IfErr result (λ fault. IsFaultOf ProgramAt tokens.now fault) }
     // What is spelled and not nested too deeply is parsed, unless memory runs out.
-    ensures whole { (program : Program) (s : IsSpelled tokens.now program) → AreShallow (pieces_of program s.ending) → MatchResult result (λ found. found ≡ program) (λ fault. fault ≡ SyntaxFault.Memory) }
+    ensures whole { (program : ProgramTree) (s : IsSpelled tokens.now program) → AreShallow (pieces_of program s.ending) → MatchResult result (λ found. found ≡ program) (λ fault. fault ≡ SyntaxFault.Memory) }
 {
     let list = tokens.as_slice();
     let rules = Rules {
@@ -81,7 +87,7 @@ pub fn parse(alloc: Global, tokens: &Tokens) -> Result<Program, SyntaxFault>
     };
     let mut cursor = Cursor::new(list, &[]);
     match program(rules, &mut cursor) {
-        Ok(program) => Ok(program),
+        Ok((items, end)) => Ok(Program::new(items, end)),
         Err(Unread::Bad) => {
             let (before, rest) = list.split_at(list.len() - cursor.left());
             Err(fault_behind(alloc, before, &rest[0], rules.size)?)

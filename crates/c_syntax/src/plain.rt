@@ -1,12 +1,14 @@
 //! Statements that hold no statement (C11 6.8.3, 6.8.6), and labels and conditions (C11 6.8.1, 6.8.4).
 
 ghost use Rattle.std.specs.Prelude.{◌≡◌};
-ghost use Rattle.c_expr.specs.Outcome.{Gives};
+ghost use Rattle.c_reader.specs.Outcome.{Gives};
 ghost use Rattle.c_syntax.specs.Statements as spec;
 
 use c_decl::Rules;
-use c_expr::{Cursor, Unread, expr};
+use c_expr::expr;
+use c_reader::{Cursor, Unread};
 use c_tree::{Expr, Label, Statement};
+use sqlite_items::Boxed;
 
 /// `";"`
 #[tactic(auto, unfolding(crate::specs::Statements::read_empty))]
@@ -24,7 +26,7 @@ pub fn simple_statement(rules: Rules, cursor: &mut Cursor<'_>) -> Result<Stateme
 {
     let value = rules.simple(cursor)?;
     cursor.mark(";", rules.left)?;
-    Ok(Statement::Simple(value))
+    Ok(Statement::Expression(Boxed::new(rules.alloc, value)?))
 }
 
 /// `"break" ";"`
@@ -48,7 +50,7 @@ pub fn continue_statement(rules: Rules, cursor: &mut Cursor<'_>) -> Result<State
 }
 
 /// An expression, unless this mark comes next.
-#[tactic(auto, using(c_expr::proofs::Gathering::choose_sees), unfolding(crate::specs::Statements::read_unless))]
+#[tactic(auto, using(c_reader::proofs::Gathering::choose_sees), unfolding(crate::specs::Statements::read_unless))]
 pub fn unless(rules: Rules, cursor: &mut Cursor<'_>, text: &str) -> Result<Option<Expr>, Unread>
     ensures { Gives (spec.read_unless text.now rules.size rules.left cursor.old) result cursor.new }
 {
@@ -67,7 +69,7 @@ pub fn return_statement(rules: Rules, cursor: &mut Cursor<'_>) -> Result<Stateme
     let place = cursor.word_at("return", rules.left)?;
     let value = unless(rules, cursor, ";")?;
     cursor.mark(";", rules.left)?;
-    Ok(Statement::Return(place, value))
+    Ok(Statement::Return(place, Boxed::new(rules.alloc, value)?))
 }
 
 /// `"(" expr ")"`, in brackets that don't nest.
@@ -103,7 +105,7 @@ fn default(rules: Rules, cursor: &mut Cursor<'_>) -> Result<Label, Unread>
 }
 
 /// A label.
-#[tactic(auto, using(c_expr::proofs::Gathering::choose_sees), unfolding(crate::specs::Statements::read_label))]
+#[tactic(auto, using(c_reader::proofs::Gathering::choose_sees), unfolding(crate::specs::Statements::read_label))]
 pub fn label(rules: Rules, cursor: &mut Cursor<'_>) -> Result<Label, Unread>
     ensures { Gives (spec.read_label rules.size rules.left cursor.old) result cursor.new }
 {

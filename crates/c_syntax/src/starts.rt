@@ -4,11 +4,12 @@ ghost use Rattle.std.specs.Prelude.{◌≡◌};
 ghost use Rattle.c_syntax.specs.Starts as spec;
 
 use c_decl::is_step;
-use c_expr::{is_kind, is_mark, is_word, starts_expr, starts_type};
+use c_expr::{starts_expr, starts_type};
+use c_reader::{is_kind, is_mark, is_word};
 use c_tree::{Token, TokenKind};
 
 /// Whether a loop begins with the token, or the bound of one.
-#[tactic(auto, unfolding(crate::specs::Starts::loop_by, c_expr::specs::Tokens::spelled_by, c_expr::specs::Tokens::is_spelled, c_expr::specs::Tokens::is_kind))]
+#[tactic(auto, unfolding(crate::specs::Starts::loop_by, c_reader::specs::Tokens::spelled_by, c_reader::specs::Tokens::is_spelled, c_reader::specs::Tokens::is_kind))]
 pub fn starts_loop(token: &Token) -> bool
     ensures { result ≡ spec.starts_loop token.now }
 {
@@ -19,7 +20,7 @@ pub fn starts_loop(token: &Token) -> bool
 }
 
 /// Whether what a statement does to one place, or a call, begins with the token.
-#[tactic(auto, unfolding(crate::specs::Starts::simple_by, c_decl::specs::Marks::step_of, c_expr::specs::Tokens::found_of, c_expr::specs::Tokens::found_by, c_expr::specs::Tokens::is_kind))]
+#[tactic(auto, unfolding(crate::specs::Starts::simple_by, c_decl::specs::Marks::step_of, c_reader::specs::Tokens::found_of, c_reader::specs::Tokens::found_by, c_reader::specs::Tokens::is_kind))]
 fn starts_simple(token: &Token) -> bool
     ensures { result ≡ spec.simple_by token.now.kind token.now.text }
 {
@@ -27,7 +28,7 @@ fn starts_simple(token: &Token) -> bool
 }
 
 /// Whether a statement begins with the token.
-#[tactic(auto, unfolding(crate::specs::Starts::statement_by, c_expr::specs::Tokens::spelled_by, c_expr::specs::Tokens::is_spelled, c_expr::specs::Tokens::is_kind))]
+#[tactic(auto, unfolding(crate::specs::Starts::statement_by, c_reader::specs::Tokens::spelled_by, c_reader::specs::Tokens::is_spelled, c_reader::specs::Tokens::is_kind))]
 pub fn starts_statement(token: &Token) -> bool
     ensures { result ≡ spec.starts_statement token.now }
 {
@@ -51,7 +52,7 @@ pub fn starts_part(token: &Token) -> bool
 }
 
 /// Whether a label begins with the token.
-#[tactic(auto, unfolding(crate::specs::Starts::label_by, c_expr::specs::Tokens::spelled_by, c_expr::specs::Tokens::is_spelled, c_expr::specs::Tokens::is_kind))]
+#[tactic(auto, unfolding(crate::specs::Starts::label_by, c_reader::specs::Tokens::spelled_by, c_reader::specs::Tokens::is_spelled, c_reader::specs::Tokens::is_kind))]
 pub fn starts_label(token: &Token) -> bool
     ensures { result ≡ spec.starts_label token.now }
 {
@@ -59,7 +60,7 @@ pub fn starts_label(token: &Token) -> bool
 }
 
 /// Whether an item begins with the token.
-#[tactic(auto, unfolding(crate::specs::Starts::item_by, c_expr::specs::Tokens::spelled_by, c_expr::specs::Tokens::is_spelled, c_expr::specs::Tokens::is_kind))]
+#[tactic(auto, unfolding(crate::specs::Starts::item_by, c_reader::specs::Tokens::spelled_by, c_reader::specs::Tokens::is_spelled, c_reader::specs::Tokens::is_kind))]
 pub fn starts_item(token: &Token) -> bool
     ensures { result ≡ spec.starts_item token.now }
 {

@@ -1,131 +1,106 @@
--- The tokens of expressions and of types' spellings (C11 6.5, 6.7.2), and which trees of them are of the grammar.
-use Rattle.std.specs.Prelude.{ℕ, ◌+◌, Bool, true, false, option_map, List, [], ◌∷◌, ◌++◌, Option, Some, None, codes}
-use Rattle.std.specs.List.{flat_map}
-use Rattle.c_tree.specs.Pieces.{Piece, mark, word, mark_at, word_at, name, type_name, literal_at, words_at, all_of, separated, optional}
-use Rattle.c_tree.specs.TypeWords.{text_of_word}
-use Rattle.c_tree.specs.Operators.{text_of_operator, text_of_prefix}
+-- Expressions (C11 6.5), in the order of Annex A: of each production the tokens that a tree of it wants, and then which trees are of the
+-- grammar. The names of productions are those of docs/LANGUAGE.md. Left out of C11: compound literals, sizeof, _Alignof and _Generic,
+-- string literals, calls of what is no name, steps and assignments inside of expressions (`Declarations.antt` has those of a
+-- statement), and the comma operator.
+use Rattle.std.specs.Prelude.{ℕ, ◌+◌, Bool, true, false, ◌&&◌, ◌==◌, nat_le, List, [], ◌∷◌, ◌++◌, codes}
+use Rattle.std.specs.List.{list_all}
+use Rattle.c_tree.specs.Pieces.{Piece, mark, mark_at, name, literal_at, all_of, separated}
+use Rattle.c_tree.specs.Operators.{text_of_operator, text_of_prefix, level_of, conditional_level, unary_level, postfix_level, primary_level}
 use Rattle.c_tree.specs.declared.token.Place.{Place}
-use Rattle.c_tree.specs.declared.expressions.TypeWord.{TypeWord}
-use Rattle.c_tree.specs.declared.expressions.Expr.{Expr}
-use Rattle.c_tree.specs.declared.expressions.Operand.{Operand}
-use Rattle.c_tree.specs.declared.expressions.Suffix.{Suffix}
-use Rattle.c_tree.specs.declared.expressions.Specs.{Specs}
-use Rattle.c_tree.specs.declared.expressions.Spelling.{Spelling}
-use Rattle.c_tree.specs.declared.expressions.Tag.{Tag}
-use Rattle.c_tree.specs.declared.expressions.Member.{Member}
-use Rattle.c_tree.specs.declared.expressions.Dimensioned.{Dimensioned}
-use Rattle.c_tree.specs.declared.expressions.Dimension.{Dimension}
-use Rattle.c_tree.specs.declared.expressions.Enumerator.{Enumerator}
-use Rattle.c_tree.specs.declared.expressions.Expr.TheOpen.{Expr-F, Operand-F, Suffix-F, Specs-F, Spelling-F, Tag-F, Member-F, Dimensioned-F, Dimension-F, Enumerator-F}
-use Rattle.c_tree.specs.declared.expressions.Expr.TheFolds.{fold-Expr, fold-Specs, fold-Operand, fold-Suffix, fold-Spelling, fold-Tag, fold-Member, fold-Dimensioned, fold-Dimension, fold-Enumerator}
+use Rattle.c_tree.specs.declared.expressions.Identifier.{Identifier}
+use Rattle.c_tree.specs.declared.expressions.BinaryOperator.{BinaryOperator}
+use Rattle.c_tree.specs.declared.expressions.UnaryOperator.{UnaryOperator}
+use Rattle.c_tree.specs.declared.expressions.Literal.{Literal}
 
 -- what a part wants, by how deep it is nested
 abbrev pub Wants : Type 0
 Wants = ℕ → List Piece
 
--- primary = NAME | call | literal | "(" expr ")"; postfix = primary suffix*; unary = prefix unary | "(" specs ")" unary | postfix;
--- chains of operators of one level; cond = or ["?" expr ":" cond]
-abbrev pub expr_wants : Expr-F Wants Wants Wants Wants Wants Wants Wants Wants Wants Wants → Wants
-expr_wants (Expr-F.Name named) n = name named n
-expr_wants (Expr-F.Literal place value) n = literal_at place value n
-expr_wants (Expr-F.Call named place arguments) n =
-    name named n ++ mark_at place (codes "(") n ++ separated (codes ",") arguments (n + 1) ++ mark (codes ")") n
-expr_wants (Expr-F.Group place inner) n = mark_at place (codes "(") n ++ inner (n + 1) ++ mark (codes ")") n
-expr_wants (Expr-F.Postfix primary suffixes) n = primary n ++ all_of suffixes n
-expr_wants (Expr-F.Prefix place operator operand) n = mark_at place (text_of_prefix operator) n ++ operand (n + 1)
-expr_wants (Expr-F.Cast place specs operand) n = mark_at place (codes "(") n ++ specs (n + 1) ++ mark (codes ")") n ++ operand (n + 1)
-expr_wants (Expr-F.Chain first operands) n = first n ++ all_of operands n
-expr_wants (Expr-F.Conditional condition place second third) n =
-    condition n ++ mark_at place (codes "?") n ++ second (n + 1) ++ mark (codes ":") n ++ third (n + 1)
+-- whether an expression is of the grammar and binds at least as strongly as a level
+abbrev pub Binds : Type 0
+Binds = ℕ → Bool
 
-abbrev pub operand_wants : Operand-F Wants Wants Wants Wants Wants Wants Wants Wants Wants Wants → Wants
-operand_wants operand n = mark_at operand.place (text_of_operator operand.operator) n ++ operand.value n
+abbrev pub has_some : {A : Type 0} → List A → Bool
+has_some [] = false
+has_some (first ∷ rest) = true
 
--- suffix = "[" expr "]" | "." NAME | "->" NAME
-abbrev pub suffix_wants : Suffix-F Wants Wants Wants Wants Wants Wants Wants Wants Wants Wants → Wants
-suffix_wants (Suffix-F.Index place index) n = mark_at place (codes "[") n ++ index (n + 1) ++ mark (codes "]") n
-suffix_wants (Suffix-F.Member place named) n = mark_at place (codes ".") n ++ name named n
-suffix_wants (Suffix-F.Arrow place named) n = mark_at place (codes "->") n ++ name named n
+-- C11 6.5.1: primary = NAME | literal | "(" expression ")" | call
+abbrev pub name_wants : Identifier → Wants
+name_wants named n = name named n
 
--- specs = "const"* (words | tag | TYPENAME) "const"*
-abbrev pub specs_wants : Specs-F Wants Wants Wants Wants Wants Wants Wants Wants Wants Wants → Wants
-specs_wants specs n = words_at specs.before (codes "const") n ++ specs.kind n ++ words_at specs.after (codes "const") n
+abbrev pub literal_wants : Place → Literal → Wants
+literal_wants place value n = literal_at place value n
 
--- the words of a type, of which the first stands at the place
-abbrev pub type_words : Place → List TypeWord → Wants
-type_words place [] n = []
-type_words place (first ∷ rest) n = word_at place (text_of_word first) n ++ flat_map (λ w. word (text_of_word w) n) rest
+abbrev pub parenthesized_wants : Place → Wants → Wants
+parenthesized_wants place inner n = mark_at place (codes "(") n ++ inner (n + 1) ++ mark (codes ")") n
 
-abbrev pub spelling_wants : Spelling-F Wants Wants Wants Wants Wants Wants Wants Wants Wants Wants → Wants
-spelling_wants (Spelling-F.Words place words) n = type_words place words n
-spelling_wants (Spelling-F.Tag tag) n = tag n
-spelling_wants (Spelling-F.TypeName named) n = type_name named n
+abbrev pub primary_binds : Binds
+primary_binds level = nat_le level primary_level
 
--- a struct's body: its braces are nested in it
-abbrev pub struct_body : Option (List Wants) → Wants
-struct_body None n = []
-struct_body (Some members) n = mark (codes "{") (n + 1) ++ all_of members (n + 1) ++ mark (codes "}") (n + 1)
+abbrev pub parenthesized_binds : Binds → Binds
+parenthesized_binds inner level = nat_le level primary_level && inner conditional_level
 
-abbrev pub comma_if : Bool → Wants
-comma_if false n = []
-comma_if true n = mark (codes ",") n
+-- C11 6.5.2.2: call = NAME "(" (expression ("," expression)*)? ")"
+abbrev pub call_wants : Identifier → Place → List Wants → Wants
+call_wants function bracket arguments n = name function n ++ mark_at bracket (codes "(") n ++ separated (codes ",") arguments (n + 1) ++ mark (codes ")") n
 
-abbrev pub enum_body : Option (List Wants) → Bool → Wants
-enum_body None comma n = []
-enum_body (Some constants) comma n = mark (codes "{") n ++ separated (codes ",") constants n ++ comma_if comma n ++ mark (codes "}") n
+abbrev pub call_binds : List Binds → Binds
+call_binds arguments level = nat_le level primary_level && list_all (λ argument. argument conditional_level) arguments
 
--- struct = "struct" (NAME ["{" member+ "}"] | "{" member+ "}"); enum = "enum" (NAME ["{" list "}"] | "{" list "}")
-abbrev pub tag_wants : Tag-F Wants Wants Wants Wants Wants Wants Wants Wants Wants Wants → Wants
-tag_wants (Tag-F.Struct place named members) n = word_at place (codes "struct") n ++ optional (option_map name named) n ++ struct_body members n
-tag_wants (Tag-F.Enum place named constants comma) n =
-    word_at place (codes "enum") n ++ optional (option_map name named) n ++ enum_body constants comma n
+-- C11 6.5.2.1, 6.5.2.3: postfix = primary ("[" expression "]" | "." NAME | "->" NAME)*
+abbrev pub postfix_wants : Wants → List Wants → Wants
+postfix_wants primary suffixes n = primary n ++ all_of suffixes n
 
--- member = specs NAME dims ("," NAME dims)* ";"
-abbrev pub member_wants : Member-F Wants Wants Wants Wants Wants Wants Wants Wants Wants Wants → Wants
-member_wants member n = member.specs n ++ separated (codes ",") member.names n ++ mark (codes ";") n
+abbrev pub postfix_binds : Binds → List Bool → Binds
+postfix_binds primary suffixes level = nat_le level postfix_level && primary primary_level && has_some suffixes && list_all (λ suffix. suffix) suffixes
 
-abbrev pub dimensioned_wants : Dimensioned-F Wants Wants Wants Wants Wants Wants Wants Wants Wants Wants → Wants
-dimensioned_wants declared n = name declared.name n ++ all_of declared.dimensions n
+abbrev pub index_wants : Place → Wants → Wants
+index_wants place index n = mark_at place (codes "[") n ++ index (n + 1) ++ mark (codes "]") n
 
--- dims = ("[" [cond] "]")*: their brackets don't nest
-abbrev pub dimension_wants : Dimension-F Wants Wants Wants Wants Wants Wants Wants Wants Wants Wants → Wants
-dimension_wants dimension n = mark_at dimension.place (codes "[") n ++ optional dimension.size n ++ mark (codes "]") n
+abbrev pub index_is : Binds → Bool
+index_is index = index conditional_level
 
--- list = NAME ["=" cond] ("," NAME ["=" cond])* [","]
-abbrev pub value_wants : Option Wants → Wants
-value_wants None n = []
-value_wants (Some value) n = mark (codes "=") n ++ value n
+abbrev pub member_of_wants : Place → Identifier → Wants
+member_of_wants place named n = mark_at place (codes ".") n ++ name named n
 
-abbrev pub enumerator_wants : Enumerator-F Wants Wants Wants Wants Wants Wants Wants Wants Wants Wants → Wants
-enumerator_wants enumerator n = name enumerator.name n ++ value_wants enumerator.value n
+abbrev pub arrow_wants : Place → Identifier → Wants
+arrow_wants place named n = mark_at place (codes "->") n ++ name named n
 
--- the same of whole trees
-abbrev pub wants_of_expr : Expr → Wants
-wants_of_expr = fold-Expr Wants Wants Wants Wants Wants Wants Wants Wants Wants Wants expr_wants spelling_wants suffix_wants tag_wants dimension_wants dimensioned_wants enumerator_wants member_wants operand_wants specs_wants
+-- C11 6.5.3: unary = unary-operator unary | cast | postfix
+abbrev pub unary_wants : Place → UnaryOperator → Wants → Wants
+unary_wants place operator operand n = mark_at place (text_of_prefix operator) n ++ operand (n + 1)
 
-abbrev pub wants_of_specs : Specs → Wants
-wants_of_specs = fold-Specs Wants Wants Wants Wants Wants Wants Wants Wants Wants Wants expr_wants spelling_wants suffix_wants tag_wants dimension_wants dimensioned_wants enumerator_wants member_wants operand_wants specs_wants
+abbrev pub unary_binds : Binds → Binds
+unary_binds operand level = nat_le level unary_level && operand unary_level
 
-abbrev pub wants_of_operand : Operand → Wants
-wants_of_operand = fold-Operand Wants Wants Wants Wants Wants Wants Wants Wants Wants Wants expr_wants spelling_wants suffix_wants tag_wants dimension_wants dimensioned_wants enumerator_wants member_wants operand_wants specs_wants
+-- C11 6.5.4: cast = "(" specs ")" unary
+abbrev pub cast_wants : Place → Wants → Wants → Wants
+cast_wants place specs operand n = mark_at place (codes "(") n ++ specs (n + 1) ++ mark (codes ")") n ++ operand (n + 1)
 
-abbrev pub wants_of_suffix : Suffix → Wants
-wants_of_suffix = fold-Suffix Wants Wants Wants Wants Wants Wants Wants Wants Wants Wants expr_wants spelling_wants suffix_wants tag_wants dimension_wants dimensioned_wants enumerator_wants member_wants operand_wants specs_wants
+abbrev pub cast_binds : Bool → Binds → Binds
+cast_binds specs operand level = nat_le level unary_level && specs && operand unary_level
 
-abbrev pub wants_of_spelling : Spelling → Wants
-wants_of_spelling = fold-Spelling Wants Wants Wants Wants Wants Wants Wants Wants Wants Wants expr_wants spelling_wants suffix_wants tag_wants dimension_wants dimensioned_wants enumerator_wants member_wants operand_wants specs_wants
+-- C11 6.5.5 to 6.5.14: chain = operand (binary-operator operand)*, of one level, and the operands bind more strongly
+abbrev pub chain_wants : Wants → List Wants → Wants
+chain_wants first operands n = first n ++ all_of operands n
 
-abbrev pub wants_of_tag : Tag → Wants
-wants_of_tag = fold-Tag Wants Wants Wants Wants Wants Wants Wants Wants Wants Wants expr_wants spelling_wants suffix_wants tag_wants dimension_wants dimensioned_wants enumerator_wants member_wants operand_wants specs_wants
+abbrev pub chain_operand_wants : Place → BinaryOperator → Wants → Wants
+chain_operand_wants place operator value n = mark_at place (text_of_operator operator) n ++ value n
 
-abbrev pub wants_of_member : Member → Wants
-wants_of_member = fold-Member Wants Wants Wants Wants Wants Wants Wants Wants Wants Wants expr_wants spelling_wants suffix_wants tag_wants dimension_wants dimensioned_wants enumerator_wants member_wants operand_wants specs_wants
+-- the level of an operator, and its operand
+pub record Bound : Type 0 where
+  pub level : ℕ
+  pub value : Binds
 
-abbrev pub wants_of_dimensioned : Dimensioned → Wants
-wants_of_dimensioned = fold-Dimensioned Wants Wants Wants Wants Wants Wants Wants Wants Wants Wants expr_wants spelling_wants suffix_wants tag_wants dimension_wants dimensioned_wants enumerator_wants member_wants operand_wants specs_wants
+abbrev pub is_chain : Binds → List Bound → Binds
+is_chain first [] level = false
+is_chain first (operand ∷ operands) level =
+    nat_le level operand.level && first (operand.level + 1)
+    && list_all (λ o. (o.level == operand.level) && o.value (o.level + 1)) (operand ∷ operands)
 
-abbrev pub wants_of_dimension : Dimension → Wants
-wants_of_dimension = fold-Dimension Wants Wants Wants Wants Wants Wants Wants Wants Wants Wants expr_wants spelling_wants suffix_wants tag_wants dimension_wants dimensioned_wants enumerator_wants member_wants operand_wants specs_wants
+-- C11 6.5.15: conditional = chain ("?" expression ":" conditional)?
+abbrev pub conditional_wants : Wants → Place → Wants → Wants → Wants
+conditional_wants condition place second third n = condition n ++ mark_at place (codes "?") n ++ second (n + 1) ++ mark (codes ":") n ++ third (n + 1)
 
-abbrev pub wants_of_enumerator : Enumerator → Wants
-wants_of_enumerator = fold-Enumerator Wants Wants Wants Wants Wants Wants Wants Wants Wants Wants expr_wants spelling_wants suffix_wants tag_wants dimension_wants dimensioned_wants enumerator_wants member_wants operand_wants specs_wants
+abbrev pub conditional_binds : Binds → Binds → Binds → Binds
+conditional_binds condition second third level = nat_le level conditional_level && condition 1 && second conditional_level && third conditional_level

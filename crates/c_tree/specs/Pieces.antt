@@ -1,11 +1,16 @@
 -- What a tree wants of the tokens that it spells: one piece for each token, in order.
-use Rattle.std.specs.Prelude.{◌≡◌, ℕ, List, [], ◌∷◌, ◌++◌, Option, Some, None, codes}
+use Rattle.std.specs.Prelude.{◌≡◌, ℕ, Bool, true, nat_lt, nat_le, List, [], ◌∷◌, ◌++◌, Option, Some, None, codes}
+use Rattle.std.specs.List.{list_all}
+use Rattle.hy_bits.specs.Words.{modulus}
+use Rattle.hy_bits.specs.Scalar.{scalar_width}
 use Rattle.hy_bits.specs.declared.scalar.Scalar.{Scalar}
+use Rattle.c_tree.specs.Names.{is_name}
+use Rattle.c_tree.specs.TokenLists.{greatest_bound}
 use Rattle.c_tree.specs.declared.token.Place.{Place}
 use Rattle.c_tree.specs.declared.token.Token.{Token}
 use Rattle.c_tree.specs.declared.token.TokenKind.{TokenKind}
 use Rattle.c_tree.specs.declared.token.TokenKind.TheVariants.{Word, Name, TypeName, Integer, Character, Mark, Bound}
-use Rattle.c_tree.specs.declared.expressions.Named.{Named}
+use Rattle.c_tree.specs.declared.expressions.Identifier.{Identifier}
 use Rattle.c_tree.specs.declared.expressions.Literal.{Literal}
 use Rattle.c_tree.specs.declared.expressions.Literal.TheVariants as literal
 
@@ -41,6 +46,24 @@ Fits [] (token ∷ tokens) = ⊥
 Fits (piece ∷ pieces) [] = ⊥
 Fits (piece ∷ pieces) (token ∷ tokens) = Takes piece token × Fits pieces tokens
 
+-- names are names, numbers are words of their types, and bounds are at most 2^20
+abbrev pub is_sound : Want → Bool
+is_sound (spelled Name text) = is_name text
+is_sound (spelled TypeName text) = is_name text
+is_sound (spelled _ text) = true
+is_sound (valued Integer scalar number) = nat_lt number (modulus (scalar_width scalar))
+is_sound (valued Character scalar number) = nat_lt number (modulus (scalar_width scalar))
+is_sound (valued _ scalar number) = true
+is_sound (bounded number) = nat_le number greatest_bound
+
+abbrev pub are_sound : List Piece → Bool
+are_sound = list_all (λ piece. is_sound piece.want)
+
+-- the place of the first token
+abbrev pub first_place : List Piece → Option Place
+first_place [] = None
+first_place (piece ∷ pieces) = piece.place
+
 -- a mark or a reserved word, wherever it stands, and at a place
 abbrev pub mark : List ℕ → ℕ → List Piece
 mark text n = record { nesting = n; place = None; want = spelled Mark text } ∷ []
@@ -55,10 +78,10 @@ abbrev pub word_at : Place → List ℕ → ℕ → List Piece
 word_at place text n = record { nesting = n; place = Some place; want = spelled Word text } ∷ []
 
 -- a name, and the name of a type
-abbrev pub name : Named → ℕ → List Piece
+abbrev pub name : Identifier → ℕ → List Piece
 name named n = record { nesting = n; place = Some named.place; want = spelled Name named.text } ∷ []
 
-abbrev pub type_name : Named → ℕ → List Piece
+abbrev pub type_name : Identifier → ℕ → List Piece
 type_name named n = record { nesting = n; place = Some named.place; want = spelled TypeName named.text } ∷ []
 
 abbrev pub want_of : Literal → Want

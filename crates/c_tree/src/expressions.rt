@@ -2,18 +2,18 @@ use crate::token::Place;
 use hy_bits::{Scalar, Text};
 use sqlite_items::{Boxed, Items};
 
-/// A name at its place.
+/// An identifier at its place (C11 6.4.2).
 #[derive(Debug, Drop)]
-pub struct Named {
+pub struct Identifier {
     pub place: Place,
     pub text: Text,
 }
 
-/// An operator between two operands of a chain, in the order of the levels from the loosest on (C11 6.5.5 to 6.5.14).
+/// A binary operator, in the order of the levels from the loosest on (C11 6.5.5 to 6.5.14).
 #[derive(Clone, Copy, Debug, PartialEq, Eq)]
-pub enum Operator {
-    OrElse,
-    AndThen,
+pub enum BinaryOperator {
+    LogicalOr,
+    LogicalAnd,
     Or,
     Xor,
     And,
@@ -32,14 +32,14 @@ pub enum Operator {
     Remainder,
 }
 
-/// An operator in front of its operand (C11 6.5.3). `Target` is the unary `*`.
+/// A unary operator (C11 6.5.3). `Indirection` is the unary `*`.
 #[derive(Clone, Copy, Debug, PartialEq, Eq)]
-pub enum Prefix {
+pub enum UnaryOperator {
     Plus,
     Minus,
     Complement,
     Not,
-    Target,
+    Indirection,
     Address,
 }
 
@@ -52,45 +52,70 @@ pub enum Literal {
     False,
 }
 
+/// Whether a comma stands after the last entry of a list in braces.
+#[derive(Clone, Copy, Debug, PartialEq, Eq)]
+pub enum TrailingComma {
+    Absent,
+    Present,
+}
+
 /// An expression (C11 6.5). The place of its first token is its own, or that of its first part.
 #[cycle(source)]
 #[derive(Drop)]
 pub enum Expr {
-    Name(Named),
+    Name(Identifier),
     Literal(Place, Literal),
-    /// The called name, the place of the bracket, and the arguments.
-    Call(Named, Place, Items<Expr>),
-    /// An expression in brackets.
-    Group(Place, Boxed<Expr>),
-    /// A primary expression and what stands behind it: indices and members, one at least.
+    /// A function call; `bracket` is the place of its opening bracket.
+    Call {
+        function: Identifier,
+        bracket: Place,
+        arguments: Items<Expr>,
+    },
+    /// An expression in brackets, of which the first stands at the place.
+    Parenthesized(Place, Boxed<Expr>),
+    /// A primary expression and the subscripts and members after it, one at least.
     Postfix(Boxed<Expr>, Items<Suffix>),
-    Prefix(Place, Prefix, Boxed<Expr>),
-    /// The place of the bracket, the type, and the operand.
-    Cast(Place, Boxed<Specs>, Boxed<Expr>),
-    /// The operands of operators of one level: the first, and the others with their operators, one at least.
-    Chain(Boxed<Expr>, Items<Operand>),
-    /// The condition, the place of the `?`, and the second and the third part.
-    Conditional(Boxed<Expr>, Place, Boxed<Expr>, Boxed<Expr>),
+    /// An operator and its operand.
+    Unary {
+        place: Place,
+        operator: UnaryOperator,
+        operand: Boxed<Expr>,
+    },
+    /// A cast; `place` is that of its opening bracket.
+    Cast {
+        place: Place,
+        specs: Boxed<Specifiers>,
+        operand: Boxed<Expr>,
+    },
+    /// The operands of binary operators of one level: the first, and the others with their operators, one at least.
+    BinaryChain(Boxed<Expr>, Items<Operand>),
+    /// A conditional expression; `place` is that of its `?`.
+    Conditional {
+        condition: Boxed<Expr>,
+        place: Place,
+        second: Boxed<Expr>,
+        third: Boxed<Expr>,
+    },
 }
 
-/// An operand of a chain behind its operator, which stands at the place.
+/// An operand of a chain after its operator, which stands at the place.
 #[cycle(source)]
 #[derive(Drop)]
 pub struct Operand {
     pub place: Place,
-    pub operator: Operator,
+    pub operator: BinaryOperator,
     pub value: Expr,
 }
 
-/// What stands behind a primary expression, with the place of its mark.
+/// What stands after a primary expression, with the place of its punctuator.
 #[cycle(source)]
 #[derive(Drop)]
 pub enum Suffix {
     Index(Place, Expr),
     /// `.` and a member.
-    Member(Place, Named),
+    Member(Place, Identifier),
     /// `->` and a member.
-    Arrow(Place, Named),
+    Arrow(Place, Identifier),
 }
 
 /// A word of the spelling of a type (C11 6.7.2, 7.18, 7.20.1.1). `Underscored` is `_Bool`.
@@ -115,47 +140,55 @@ pub enum TypeWord {
     Uint64,
 }
 
-/// A type's spelling, between the places of its `const` before and behind.
+/// The specifiers of a type: what names it, between the places of its `const` before and after.
 #[cycle(source)]
 #[derive(Drop)]
-pub struct Specs {
+pub struct Specifiers {
     pub before: Items<Place>,
-    pub kind: Spelling,
+    pub kind: TypeSpecifier,
     pub after: Items<Place>,
 }
 
 /// What names a type: words, one at least, a struct or an enum, or a name that a `typedef` declares.
 #[cycle(source)]
 #[derive(Drop)]
-pub enum Spelling {
+pub enum TypeSpecifier {
     /// The place of the first word, and the words.
     Words(Place, Items<TypeWord>),
-    Tag(Tag),
-    TypeName(Named),
+    TagSpecifier(TagSpecifier),
+    TypeName(Identifier),
 }
 
-/// A struct or an enum with its tag, its body in braces, or both (C11 6.7.2.1, 6.7.2.2). The flag of an enum tells
-/// whether a comma stands behind its last constant.
+/// A struct or an enum with its tag, its body in braces, or both (C11 6.7.2.1, 6.7.2.2).
 #[cycle(source)]
 #[derive(Drop)]
-pub enum Tag {
-    Struct(Place, Option<Named>, Option<Items<Member>>),
-    Enum(Place, Option<Named>, Option<Items<Enumerator>>, bool),
+pub enum TagSpecifier {
+    Struct {
+        place: Place,
+        tag: Option<Identifier>,
+        members: Option<Items<StructDeclaration>>,
+    },
+    Enum {
+        place: Place,
+        tag: Option<Identifier>,
+        enumerators: Option<Items<Enumerator>>,
+        comma: TrailingComma,
+    },
 }
 
-/// One declaration of members of one type: one name at least, each with its dimensions.
+/// A declaration of members of one type: one declarator at least.
 #[cycle(source)]
 #[derive(Drop)]
-pub struct Member {
-    pub specs: Specs,
-    pub names: Items<Dimensioned>,
+pub struct StructDeclaration {
+    pub specs: Specifiers,
+    pub names: Items<StructDeclarator>,
 }
 
-/// A declared name with its dimensions.
+/// A declared member with its dimensions.
 #[cycle(source)]
 #[derive(Drop)]
-pub struct Dimensioned {
-    pub name: Named,
+pub struct StructDeclarator {
+    pub name: Identifier,
     pub dimensions: Items<Dimension>,
 }
 
@@ -167,10 +200,10 @@ pub struct Dimension {
     pub size: Option<Expr>,
 }
 
-/// A constant of an enum, with its value if that is written.
+/// An enumerator, with its value if that is written.
 #[cycle(source)]
 #[derive(Drop)]
 pub struct Enumerator {
-    pub name: Named,
+    pub name: Identifier,
     pub value: Option<Expr>,
 }

@@ -3,34 +3,40 @@
 //! A tree has a struct or a variant for each production of the grammar, with its parts in their order. What its tokens
 //! are is a function of the tree: the pieces that it wants, one for each token, with their nesting.
 //!
-//! | definitions | of |
-//! |---|---|
-//! | `specs/Names.antt` | the bytes of names, and which lists of bytes are names |
-//! | `specs/TokenLists.antt` | what is so of each token and of each list of tokens |
-//! | `specs/Pieces.antt` | what a tree wants of a token, and the tokens that fit |
-//! | `specs/Operators.antt`, `specs/TypeWords.antt` | spellings of operators and types, and how strongly operators bind |
-//! | `specs/Expressions.antt`, `specs/Grammar.antt` | the pieces of expressions and types, and which trees are of the grammar |
-//! | `specs/Statements.antt`, `specs/Programs.antt` | the same of statements, declarations and programs |
+//! # Guarantees
 //!
-//! Crates above can import from `proofs/`: what a tree wants and whether it is of the grammar, by its parts, and trees by
-//! their outermost layer.
+//! | call | guarantee | clause | definitions to read, in order |
+//! |---|---|---|---|
+//! | [`Token::copy_at`] | a copy differs from its token in the place alone | `src/token.rt` | none |
+//! | [`Tokens`] | a list of tokens ends with its only end, has fewer than 2^32 tokens, and its names, numbers and bounds are in their ranges | `src/token.rt` | `specs/Names.antt`, `specs/TokenLists.antt` |
+//! | [`Program`] | a program is of the grammar, its names, numbers and bounds are in their ranges, and its tokens are fewer than 2^32 | `src/program.rt` | `specs/Pieces.antt`, `specs/Operators.antt`, `specs/Expressions.antt`, `specs/Types.antt`, `specs/Declarations.antt`, `specs/Statements.antt`, `specs/Programs.antt` |
+//!
+//! `specs/Folds.antt` and `specs/StatementFolds.antt` apply the productions to whole trees. Crates above can import from
+//! `proofs/` what a tree wants and whether it is of the grammar, by its parts, and trees by their outermost layer.
 #![tactic(auto)]
 
+mod brackets;
 mod expressions;
+mod places;
+mod program;
 mod programs;
+mod spelled;
 mod statements;
 mod token;
 
 pub use expressions::{
-    Dimension, Dimensioned, Enumerator, Expr, Literal, Member, Named, Operand, Operator, Prefix,
-    Specs, Spelling, Suffix, Tag, TypeWord,
+    BinaryOperator, Dimension, Enumerator, Expr, Identifier, Literal, Operand, Specifiers,
+    StructDeclaration, StructDeclarator, Suffix, TagSpecifier, TrailingComma, TypeSpecifier,
+    TypeWord, UnaryOperator,
 };
-pub use programs::{Function, Item, Parameter, Parameters, Program, Static, Words};
+pub use program::Program;
+pub use programs::{
+    ExternalDeclaration, Function, FunctionSpecifiers, Parameter, Parameters, StaticSpecifier,
+};
+pub use spelled::{SpelledType, spelled_type};
 pub use statements::{
-    Assign, Block, Declarator, First, Init, Label, LoopBound, Objects, Part, Pointer, Section,
-    Simple, Start, Statement, Step,
+    AssignmentOperator, Block, BlockItem, Declaration, ExpressionStatement, First, InitDeclarator,
+    Initialization, Initializer, Iteration, Label, LabelledSection, LoopBound, Pointer, Selection,
+    Statement, Step,
 };
 pub use token::{Place, Token, TokenKind, Tokens};
-
-#[cfg(test)]
-mod tests;

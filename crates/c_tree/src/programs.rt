@@ -1,14 +1,14 @@
-use crate::expressions::{Dimension, Named, Specs, Tag};
-use crate::statements::{Block, Objects, Pointer};
+use crate::expressions::{Dimension, Identifier, Specifiers, TagSpecifier};
+use crate::statements::{Block, Declaration, Pointer};
 use crate::token::Place;
-use sqlite_items::Items;
+use sqlite_items::{Boxed, Items};
 
 /// A parameter of a function (C11 6.9.1).
 #[derive(Drop)]
 pub struct Parameter {
-    pub specs: Specs,
+    pub specs: Specifiers,
     pub pointer: Option<Pointer>,
-    pub name: Named,
+    pub name: Identifier,
     pub dimensions: Items<Dimension>,
 }
 
@@ -20,43 +20,42 @@ pub enum Parameters {
     List(Items<Parameter>),
 }
 
-/// The words before a function: `inline` at their places, and a `static` with more of them.
+/// The specifiers before a function: `inline` at their places, and a `static` with more of them.
 #[derive(Drop)]
-pub struct Words {
+pub struct FunctionSpecifiers {
     pub inline: Items<Place>,
-    pub fixed: Option<Static>,
+    pub fixed: Option<StaticSpecifier>,
 }
 
-/// `static` at its place, and the places of `inline` behind it.
+/// `static` at its place, and the places of `inline` after it.
 #[derive(Drop)]
-pub struct Static {
+pub struct StaticSpecifier {
     pub place: Place,
     pub inline: Items<Place>,
 }
 
-/// A function (C11 6.9.1).
+/// A function definition (C11 6.9.1).
 #[derive(Drop)]
 pub struct Function {
-    pub words: Words,
-    pub specs: Specs,
-    pub name: Named,
+    pub words: FunctionSpecifiers,
+    pub specs: Specifiers,
+    pub name: Identifier,
     pub parameters: Parameters,
     pub body: Block,
 }
 
-/// An item of a program (C11 6.9).
+/// An external declaration (C11 6.9).
 #[derive(Drop)]
-pub enum Item {
-    /// The place of the `typedef`, the type, the declared name and its dimensions.
-    Typedef(Place, Specs, Named, Items<Dimension>),
-    Tag(Tag),
-    /// The place of the `static`, if there is one, and the objects.
-    Objects(Option<Place>, Objects),
-    Function(Function),
-}
-
-/// A program as it is written.
-#[derive(Drop)]
-pub struct Program {
-    pub items: Items<Item>,
+pub enum ExternalDeclaration {
+    /// A `typedef` at its place.
+    Typedef {
+        place: Place,
+        specs: Boxed<Specifiers>,
+        name: Identifier,
+        dimensions: Items<Dimension>,
+    },
+    TagSpecifier(Boxed<TagSpecifier>),
+    /// The place of the `static`, if there is one, and the declaration.
+    Declaration(Option<Place>, Boxed<Declaration>),
+    Function(Boxed<Function>),
 }

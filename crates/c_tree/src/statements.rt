@@ -1,10 +1,10 @@
-use crate::expressions::{Dimension, Expr, Named, Specs, Tag};
+use crate::expressions::{Dimension, Expr, Identifier, Specifiers, TagSpecifier, TrailingComma};
 use crate::token::Place;
 use sqlite_items::{Boxed, Items};
 
-/// An assignment mark: `=`, or an operator and `=` (C11 6.5.16).
+/// An assignment operator: `=`, or a binary operator and `=` (C11 6.5.16).
 #[derive(Clone, Copy, Debug, PartialEq, Eq)]
-pub enum Assign {
+pub enum AssignmentOperator {
     Plain,
     Multiply,
     Divide,
@@ -25,52 +25,68 @@ pub enum Step {
     Decrement,
 }
 
-/// What a statement does to one place, or a call whose value isn't used. The place is that of the mark.
+/// The expression of an expression statement (C11 6.8.3): what assigns to one place, or a call whose value isn't used. The
+/// place is that of the operator.
 #[derive(Drop)]
-pub enum Simple {
-    Assign(Expr, Place, Assign, Expr),
-    /// The mark behind the operand.
-    Behind(Expr, Place, Step),
-    /// The mark before the operand.
-    Before(Place, Step, Expr),
+pub enum ExpressionStatement {
+    Assignment {
+        target: Expr,
+        place: Place,
+        operator: AssignmentOperator,
+        value: Expr,
+    },
+    PostfixStep {
+        operand: Expr,
+        place: Place,
+        step: Step,
+    },
+    PrefixStep {
+        place: Place,
+        step: Step,
+        operand: Expr,
+    },
     Call(Expr),
 }
 
-/// The `*` of a pointer's declaration, and the place of the `const` behind it.
+/// The `*` of a pointer's declaration, and the place of the `const` after it.
 #[derive(Drop)]
 pub struct Pointer {
     pub place: Place,
     pub constant: Option<Place>,
 }
 
-/// An initialiser: an expression, or a list in braces, one at least. The flag tells whether a comma stands behind the last.
+/// An initializer (C11 6.7.9): an expression, or a list in braces, one at least.
 #[derive(Drop)]
-pub enum Init {
-    Value(Expr),
-    List(Place, Items<Init>, bool),
+pub enum Initializer {
+    Expression(Expr),
+    List {
+        place: Place,
+        parts: Items<Initializer>,
+        comma: TrailingComma,
+    },
 }
 
-/// The initialiser behind the place of its `=`.
+/// An initializer after the place of its `=`.
 #[derive(Drop)]
-pub struct Start {
+pub struct Initialization {
     pub place: Place,
-    pub value: Init,
+    pub value: Initializer,
 }
 
-/// One declared object.
+/// A declarator and its initializer, if there is one (C11 6.7).
 #[derive(Drop)]
-pub struct Declarator {
+pub struct InitDeclarator {
     pub pointer: Option<Pointer>,
-    pub name: Named,
+    pub name: Identifier,
     pub dimensions: Items<Dimension>,
-    pub start: Option<Start>,
+    pub start: Option<Initialization>,
 }
 
 /// A declaration of objects of one type (C11 6.7), one at least.
 #[derive(Drop)]
-pub struct Objects {
-    pub specs: Specs,
-    pub declarators: Items<Declarator>,
+pub struct Declaration {
+    pub specs: Specifiers,
+    pub declarators: Items<InitDeclarator>,
 }
 
 /// The number of a `#pragma bound` line.
@@ -84,56 +100,96 @@ pub struct LoopBound {
 #[derive(Drop)]
 pub enum First {
     Nothing,
-    Objects(Objects),
-    Simple(Simple),
+    Declaration(Declaration),
+    Expression(ExpressionStatement),
 }
 
-/// A label of a `switch` at its place.
+/// A label of a `switch` at its place (C11 6.8.1).
 #[derive(Drop)]
 pub enum Label {
     Case(Place, Expr),
     Default(Place),
 }
 
-/// A statement (C11 6.8). The place is that of its word; a loop's bound stands before it.
+/// A statement (C11 6.8). The place is that of its first token. What is wide is boxed, so that a long list of statements
+/// takes little.
 #[cycle(statements)]
 #[derive(Drop)]
 pub enum Statement {
-    Block(Block),
+    Block(Boxed<Block>),
     Empty(Place),
-    Simple(Simple),
+    Expression(Boxed<ExpressionStatement>),
     Break(Place),
     Continue(Place),
-    Return(Place, Option<Expr>),
-    If(Place, Expr, Boxed<Statement>, Option<Boxed<Statement>>),
-    Switch(Place, Expr, Items<Section>),
-    While(Option<LoopBound>, Place, Expr, Boxed<Statement>),
-    Do(Option<LoopBound>, Place, Boxed<Statement>, Expr),
-    /// The first part, the condition, the step and the body.
-    For(Option<LoopBound>, Place, First, Option<Expr>, Option<Simple>, Boxed<Statement>),
+    Return(Place, Boxed<Option<Expr>>),
+    Selection(Boxed<Selection>),
+    Iteration(Boxed<Iteration>),
 }
 
-/// Labels of a `switch`, one at least, and the statements behind them, one at least.
+/// A selection statement (C11 6.8.4). The place is that of its keyword.
 #[cycle(statements)]
 #[derive(Drop)]
-pub struct Section {
+pub enum Selection {
+    If {
+        place: Place,
+        condition: Expr,
+        then: Statement,
+        otherwise: Option<Statement>,
+    },
+    Switch {
+        place: Place,
+        value: Expr,
+        sections: Items<LabelledSection>,
+    },
+}
+
+/// An iteration statement (C11 6.8.5), with the bound before it, if there is one. The place is that of its keyword.
+#[cycle(statements)]
+#[derive(Drop)]
+pub enum Iteration {
+    While {
+        bound: Option<LoopBound>,
+        place: Place,
+        condition: Expr,
+        body: Statement,
+    },
+    Do {
+        bound: Option<LoopBound>,
+        place: Place,
+        body: Statement,
+        condition: Expr,
+    },
+    For {
+        bound: Option<LoopBound>,
+        place: Place,
+        first: First,
+        condition: Option<Expr>,
+        step: Option<ExpressionStatement>,
+        body: Statement,
+    },
+}
+
+/// Labels of a `switch`, one at least, and the statements after them, one at least.
+#[cycle(statements)]
+#[derive(Drop)]
+pub struct LabelledSection {
     pub labels: Items<Label>,
     pub statements: Items<Statement>,
 }
 
-/// What stands between braces.
+/// A compound statement (C11 6.8.2): what stands between braces, of which the first stands at the place.
 #[cycle(statements)]
 #[derive(Drop)]
 pub struct Block {
     pub place: Place,
-    pub parts: Items<Part>,
+    pub parts: Items<BlockItem>,
 }
 
-/// A part of a block.
+/// An item of a block.
 #[cycle(statements)]
 #[derive(Drop)]
-pub enum Part {
+pub enum BlockItem {
     Statement(Statement),
-    Objects(Objects),
-    Tag(Tag),
+    Declaration(Boxed<Declaration>),
+    TagSpecifier(Boxed<TagSpecifier>),
 }

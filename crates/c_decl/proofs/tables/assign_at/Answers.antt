@@ -1,5 +1,5 @@
 use Rattle.std.proofs.Common.{is_some, ap, sym, ◌∙◌}
-use Rattle.c_expr.proofs.Tokening.{taken_value, taken_exit, take_bad, sees_first, inner}
+use Rattle.c_reader.proofs.Tokening.{taken_value, taken_exit, take_bad, sees_first, inner}
 use Rattle.c_decl.proofs.Marking.{assign_only, assign_at_is}
 use Rattle.c_decl.proofs.tables.assign_at.Goals as goal
 

@@ -1,10 +1,10 @@
 use Rattle.std.proofs.Common.{ℕ, List, map, Bor, ap, ◌∙◌}
 use Rattle.c_tree.specs.declared.token.TokenKind.TheVariants.{Mark}
-use Rattle.c_tree.specs.declared.statements.Assign.{Assign}
-use Rattle.c_expr.specs.Tokens.{found_of}
+use Rattle.c_tree.specs.declared.statements.AssignmentOperator.{AssignmentOperator}
+use Rattle.c_reader.specs.Tokens.{found_of}
 use Rattle.c_decl.specs.Marks.{assign_of}
 use Rattle.c_decl.proofs.tables.assign_of.Goals as goal
 
 pub returns : goal.returns
 unfolding assign_of
-returns c = c.found_of.ensures ∙ ap (λ (es : List (Bor (List ℕ) × Assign)). found_of Mark (map (λ e. (e.0.now, e.1)) es) c.args.token.now) c.as_slice.ensures
+returns c = c.found_of.ensures ∙ ap (λ (es : List (Bor (List ℕ) × AssignmentOperator)). found_of Mark (map (λ e. (e.0.now, e.1)) es) c.args.token.now) c.as_slice.ensures

@@ -1,5 +1,5 @@
 use Rattle.std.proofs.Common.{◌∙◌, sym}
-use Rattle.c_expr.proofs.Tokening.{sees_first}
+use Rattle.c_reader.proofs.Tokening.{sees_first}
 use Rattle.c_decl.proofs.tables.sees_step.Goals as goal
 
 pub returns : goal.returns

@@ -1,7 +1,7 @@
 use Rattle.std.proofs.Common.{◌-◌, sym, subst}
 use Rattle.c_expr.specs.Levels.{readers_at}
 use Rattle.c_expr.specs.Types.{read_tag}
-use Rattle.c_expr.specs.Outcome.{Gives}
+use Rattle.c_reader.specs.Outcome.{Gives}
 use Rattle.c_expr.proofs.Depths.{expr_at}
 use Rattle.c_expr.proofs.nesting.tag.Goals as goal
 

@@ -1,6 +1,6 @@
 use Rattle.std.proofs.Common.{◌≡◌, ◌==◌, not, [], ◌∷◌, ◌++◌, sym, ap, ◌∙◌}
 use Rattle.c_expr.specs.Levels.{readers_at}
-use Rattle.c_expr.specs.Samples.{sample_of, end_token}
+use Rattle.c_reader.specs.Samples.{sample_of, end_token}
 use Rattle.c_expr.proofs.Returning.{taken_if_good, taken_if_bad, taken_if_deep}
 use Rattle.c_expr.proofs.run.can_stand.Goals as goal
 

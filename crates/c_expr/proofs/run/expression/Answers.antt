@@ -1,9 +1,9 @@
 use Rattle.std.proofs.Common.{rules, ◌≡◌, ◌+◌, true, length, drop, sym, ap, ◌∙◌, subst, arith}
 use Rattle.c_tree.specs.TokenLists.{is_closed}
 use Rattle.c_expr.specs.Runs.{IsRun}
-use Rattle.c_expr.specs.declared.faults.SyntaxFault.TheVariants as SyntaxFault
+use Rattle.c_reader.specs.declared.faults.SyntaxFault.TheVariants as SyntaxFault
 use Rattle.c_expr.proofs.Answering.{taken_one}
-use Rattle.c_expr.proofs.Ending.{drop_closed}
+use Rattle.c_reader.proofs.Ending.{drop_closed}
 use Rattle.c_expr.proofs.run.expression.Goals as goal
 
 pub longest-requires-clause-closed : goal.longest-requires-clause-closed

@@ -1,6 +1,6 @@
 use Rattle.std.proofs.Common.{◌+◌, length, sym, ◌∙◌, arith}
 use Rattle.std.proofs.lemmas.List.{length-append}
-use Rattle.c_expr.proofs.Ending.{run_closed}
+use Rattle.c_reader.proofs.Ending.{run_closed}
 use Rattle.c_expr.proofs.Returning.{run_taken, run_fault, run_none}
 use Rattle.c_expr.proofs.run.of_run.Goals as goal
 

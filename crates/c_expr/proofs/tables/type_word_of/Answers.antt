@@ -1,7 +1,8 @@
 use Rattle.std.proofs.Common.{ℕ, List, map, Bor, ap, ◌∙◌}
 use Rattle.c_tree.specs.declared.token.TokenKind.TheVariants.{Word}
 use Rattle.c_tree.specs.declared.expressions.TypeWord.{TypeWord}
-use Rattle.c_expr.specs.Tokens.{type_word_of, found_of}
+use Rattle.c_expr.specs.Tokens.{type_word_of}
+use Rattle.c_reader.specs.Tokens.{found_of}
 use Rattle.c_expr.proofs.tables.type_word_of.Goals as goal
 
 pub returns : goal.returns

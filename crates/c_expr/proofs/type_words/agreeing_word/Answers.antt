@@ -1,5 +1,5 @@
 use Rattle.std.proofs.Common.{◌∙◌}
-use Rattle.c_expr.proofs.Tokening.{taken_value, taken_exit, take_bad, sees_first, inner}
+use Rattle.c_reader.proofs.Tokening.{taken_value, taken_exit, take_bad, sees_first, inner}
 use Rattle.c_expr.proofs.Agreeing.{agrees_only, agreed_fits, agreed_word, agreed, misses}
 use Rattle.c_expr.proofs.type_words.agreeing_word.Goals as goal
 

@@ -1,7 +1,7 @@
 use Rattle.std.proofs.Common.{◌-◌, ◌+◌, ◌∙◌, sym, ap, subst}
 use Rattle.c_expr.specs.Counting.{Few}
 use Rattle.c_expr.specs.Types.{read_words}
-use Rattle.c_expr.proofs.Gathering.{gathered}
+use Rattle.c_reader.proofs.Gathering.{gathered}
 use Rattle.c_expr.proofs.Agreeing.{few_agree, words_exit, words_turn, words_stop, words_end}
 use Rattle.c_expr.proofs.type_words.words_behind.Goals as goal
 use Rattle.c_expr.proofs.type_words.words_behind.Goals.{else-loop-turn-test, then-loop-turn-test+then-not-sees_agreeing}

@@ -1,7 +1,7 @@
 use Rattle.std.proofs.Common.{◌≡◌, ◌-◌}
 use Rattle.c_expr.specs.Counting.{Few}
 use Rattle.c_expr.specs.Types.{read_words}
-use Rattle.c_expr.proofs.Gathering.{gathered}
+use Rattle.c_reader.proofs.Gathering.{gathered}
 use Rattle.c_expr.proofs.type_words.words_behind.Given as goal
 
 abbrev pub invariant-loop-turn : goal.invariant-loop-turn

@@ -1,6 +1,6 @@
 use Rattle.std.proofs.Common.{sym, subst, ◌∙◌}
 use Rattle.c_decl.specs.Bare.{tag_of}
-use Rattle.c_expr.specs.Outcome.{Gives}
+use Rattle.c_reader.specs.Outcome.{Gives}
 use Rattle.c_syntax.proofs.Reading.{part_objects, part_other, part_tag}
 use Rattle.c_syntax.proofs.blocks.part_behind.Goals as goal
 

@@ -1,5 +1,5 @@
 use Rattle.std.proofs.Common.{sym, subst, ◌∙◌}
-use Rattle.c_expr.specs.Outcome.{Gives}
+use Rattle.c_reader.specs.Outcome.{Gives}
 use Rattle.c_syntax.proofs.Reading.{item_function, item_pointer, item_objects}
 use Rattle.c_syntax.proofs.items.item_behind.Goals as goal
 use Rattle.c_syntax.proofs.items.item_behind.Goals.{then-is_some-via-then-is_some, then-is_some-via-else-is_some+then-not-sees_mark}

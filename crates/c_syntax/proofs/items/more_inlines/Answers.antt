@@ -1,5 +1,5 @@
 use Rattle.std.proofs.Common.{codes, rules}
-use Rattle.c_expr.specs.Tokens.{is_word}
+use Rattle.c_reader.specs.Tokens.{is_word}
 use Rattle.c_syntax.proofs.items.more_inlines.Goals as goal
 
 pub returns : goal.returns

@@ -1,6 +1,6 @@
 use Rattle.std.proofs.Common.{sym, subst, ◌∙◌}
 use Rattle.c_decl.specs.Bare.{tag_of}
-use Rattle.c_expr.specs.Outcome.{Gives}
+use Rattle.c_reader.specs.Outcome.{Gives}
 use Rattle.c_syntax.proofs.Reading.{plain_item, plain_other, plain_tag}
 use Rattle.c_syntax.proofs.items.plain_behind.Goals as goal
 

@@ -4,7 +4,7 @@ use Rattle.c_syntax.proofs.items.program.Goals as goal
 
 pub returns-then-sees_kind : goal.returns-then-sees_kind
 unfolding Rattle.c_syntax.specs.Items.read_program
-returns-then-sees_kind c = program_ends _ c.args.rules.left _ c.items.new.cursor c.in_ok-items.ensures c.requires (sym c.sees_kind.ensures ∙ c.if-sees_kind.true)
+returns-then-sees_kind c = program_ends _ c.args.rules.left _ c.items.new.cursor _ _ c.in_ok-items.ensures c.requires (sym c.sees_kind.ensures ∙ c.if-sees_kind.true) c.peek.ensures
 
 pub returns-else-sees_kind : goal.returns-else-sees_kind
 unfolding Rattle.c_syntax.specs.Items.read_program

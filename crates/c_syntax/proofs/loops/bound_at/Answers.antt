@@ -1,5 +1,5 @@
 use Rattle.std.proofs.Common.{refl}
-use Rattle.c_expr.proofs.Tokening.{taken_good, taken_exit, inner, kind_only}
+use Rattle.c_reader.proofs.Tokening.{taken_good, taken_exit, inner, kind_only}
 use Rattle.c_syntax.proofs.loops.bound_at.Goals as goal
 
 pub take-requires : goal.take-requires

@@ -1,5 +1,5 @@
 use Rattle.std.proofs.Common.{◌≡◌, ◌<◌, sym, subst, arith}
-use Rattle.c_expr.specs.Outcome.{Gives}
+use Rattle.c_reader.specs.Outcome.{Gives}
 use Rattle.c_syntax.proofs.Reading.{statement_none, statement_at}
 use Rattle.c_syntax.proofs.nesting.+statement.Goals as goal
 

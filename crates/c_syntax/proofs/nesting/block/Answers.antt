@@ -1,5 +1,5 @@
 use Rattle.std.proofs.Common.{◌≡◌, ◌<◌, sym, subst, arith}
-use Rattle.c_expr.specs.Outcome.{Gives}
+use Rattle.c_reader.specs.Outcome.{Gives}
 use Rattle.c_syntax.proofs.Reading.{block_none, block_at}
 use Rattle.c_syntax.proofs.nesting.block.Goals as goal
 

@@ -1,6 +1,6 @@
 use Rattle.c_syntax.specs.Items.{read_program}
 use Rattle.std.proofs.Common.{◌≡◌, [], ◌∷◌, ◌∙◌}
-use Rattle.c_expr.specs.Samples.{sample_of, end_token}
+use Rattle.c_reader.specs.Samples.{sample_of, end_token}
 use Rattle.c_syntax.proofs.Parsing.{stands_good, stands_bad, stands_deep}
 use Rattle.c_syntax.proofs.parser.can_stand.Goals as goal
 

@@ -1,10 +1,10 @@
 use Rattle.std.proofs.Common.{◌<◌, ◌-◌, ◌∙◌, sym, ap, refl, arith}
 use Rattle.c_expr.specs.Levels.{readers_at}
 use Rattle.c_expr.specs.Tokens.{is_operator}
-use Rattle.c_expr.specs.Reading.{good}
+use Rattle.c_reader.specs.Reading.{good}
 use Rattle.c_expr.specs.Expressions.{chained}
-use Rattle.c_expr.proofs.Failing.{gives_fault}
-use Rattle.c_expr.proofs.Gathering.{exit_in, turn_in, break_in, end_in}
+use Rattle.c_reader.proofs.Failing.{gives_fault}
+use Rattle.c_reader.proofs.Gathering.{exit_in, turn_in, break_in, end_in}
 use Rattle.c_expr.proofs.Chaining.{chained_all, operand_reader, behind_init, level_good, unary_fails, unary_good, operands_fail, operator_fails, value_fails, operand_good}
 use Rattle.c_expr.proofs.grammar.Grammar.+chains.Goals as goal
 use Rattle.c_expr.proofs.grammar.Grammar.+chains.Goals.{operands-else-loop-turn-test, operands-then-loop-turn-test+then-not-sees_operator}

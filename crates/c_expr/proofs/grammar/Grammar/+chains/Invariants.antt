@@ -1,9 +1,9 @@
 use Rattle.std.proofs.Common.{◌≡◌, ◌≤◌, ◌+◌, ◌*◌, ◌-◌}
-use Rattle.c_expr.specs.Reading.{good, many}
+use Rattle.c_reader.specs.Reading.{good, many}
 use Rattle.c_expr.specs.Tokens.{is_operator}
 use Rattle.c_expr.specs.Expressions.{read_chain}
 use Rattle.c_expr.specs.Levels.{readers_at}
-use Rattle.c_expr.proofs.Gathering.{gathered}
+use Rattle.c_reader.proofs.Gathering.{gathered}
 use Rattle.c_expr.proofs.Chaining.{chained_all, operand_reader, behind}
 use Rattle.c_expr.proofs.grammar.Grammar.+chains.Given as goal
 

@@ -1,5 +1,5 @@
 use Rattle.std.proofs.Common.{rules, codes}
-use Rattle.c_expr.specs.Tokens.{is_word, read_word_at}
+use Rattle.c_reader.specs.Tokens.{is_word, read_word_at}
 use Rattle.c_expr.specs.Types.{read_constants}
 use Rattle.c_expr.proofs.grammar.Grammar.constants.Goals as goal
 

@@ -1,6 +1,6 @@
 use Rattle.std.proofs.Common.{rules}
 use Rattle.c_tree.specs.declared.token.TokenKind.TheVariants.{Name}
-use Rattle.c_expr.specs.Tokens.{is_kind}
+use Rattle.c_reader.specs.Tokens.{is_kind}
 use Rattle.c_expr.proofs.grammar.Grammar.more_enumerators.Goals as goal
 
 pub returns : goal.returns

@@ -1,6 +1,6 @@
 use Rattle.std.proofs.Common.{sym, subst, ap, ◌∙◌}
-use Rattle.c_expr.specs.Outcome.{Gives}
-use Rattle.c_expr.specs.Reading.{good}
+use Rattle.c_reader.specs.Outcome.{Gives}
+use Rattle.c_reader.specs.Reading.{good}
 use Rattle.c_syntax.specs.Levels.{read_statement}
 use Rattle.c_syntax.proofs.Reading.{otherwise_open, otherwise_else, otherwise_none}
 use Rattle.c_syntax.proofs.inner.Inner.otherwise.Goals as goal

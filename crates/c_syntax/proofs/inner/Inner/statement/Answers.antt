@@ -1,6 +1,6 @@
 use Rattle.std.proofs.Common.{sym, subst, ◌∙◌}
-use Rattle.c_expr.specs.Outcome.{Gives}
-use Rattle.c_expr.proofs.Tokening.{sees_first}
+use Rattle.c_reader.specs.Outcome.{Gives}
+use Rattle.c_reader.proofs.Tokening.{sees_first}
 use Rattle.c_syntax.specs.Levels.{read_statement}
 use Rattle.c_syntax.specs.Starts.{starts_loop}
 use Rattle.c_syntax.proofs.Reading.{statement_loop, statement_simple}

@@ -1,5 +1,0 @@
-use Rattle.c_expr.proofs.Gathering.{gives_gathered}
-use Rattle.c_expr.proofs.lists.many.Goals as goal
-
-pub returns : goal.returns
-returns g c = λ test part tests reads. gives_gathered _ _ _ _ c.new.ensures (c.many_behind.ensures test part tests reads)
