@@ -1,4 +1,4 @@
--- FunctionSpecifiers of a type that agree are few of each kind.
+-- Words of a type that agree are few of each kind.
 use Rattle.std.proofs.Common.{◌≡◌, ◌≤◌, ◌<◌, inl, inr, ℕ, zero, suc, ◌+◌, ◌-◌, Bool, true, false, ◌&&◌, ◌==◌, nat_le, if◌then◌else◌, Option, Some, None, is_some, unwrap_or, List, [], ◌∷◌, ◌++◌, Result, refl, sym, ap, ◌∙◌, arith, append-nil}
 use Rattle.std.specs.Result.{IsErrAnd}
 use Rattle.std.proofs.lemmas.Bool.{eqb-true, leb-true}

@@ -276,7 +276,7 @@ impl<
         }
     }
 
-    /// FunctionSpecifiers, a name that a `typedef` declares, a struct or an enum.
+    /// Words, a name that a `typedef` declares, a struct or an enum.
     #[tactic(auto, using(c_reader::proofs::Gathering::choose_sees), unfolding(crate::specs::Types::read_spelling))]
     fn spelling(&self, cursor: &mut Cursor<'_>) -> Result<TypeSpecifier, Unread>
         requires { AreNested self.now.size self.now.left (U.pre self.now.unary) (U.post self.now.unary) (E.pre self.now.expr) (E.post self.now.expr) (S.pre self.now.specs) (S.post self.now.specs) }

@@ -15,7 +15,7 @@ left_out_words =
     (codes "goto", tt) ∷ (codes "union", tt) ∷ (codes "float", tt) ∷ (codes "double", tt) ∷ (codes "volatile", tt) ∷ (codes "restrict", tt) ∷ (codes "register", tt)
     ∷ (codes "auto", tt) ∷ (codes "extern", tt) ∷ (codes "sizeof", tt) ∷ (codes "typedef", tt) ∷ (codes "static", tt) ∷ (codes "inline", tt) ∷ (codes "_Alignas", tt)
     ∷ (codes "_Alignof", tt) ∷ (codes "_Atomic", tt) ∷ (codes "_Complex", tt) ∷ (codes "_Generic", tt) ∷ (codes "_Imaginary", tt) ∷ (codes "_Noreturn", tt)
-    ∷ (codes "_StaticSpecifier_assert", tt) ∷ (codes "_Thread_local", tt) ∷ []
+    ∷ (codes "_Static_assert", tt) ∷ (codes "_Thread_local", tt) ∷ []
 
 -- the comma, steps and assignments among them
 abbrev pub left_out_marks : List (List ℕ × Unit {0})

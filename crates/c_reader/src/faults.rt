@@ -24,7 +24,7 @@ pub enum SyntaxFault {
     Memory,
 }
 
-/// FunctionSpecifiers that name what is left out.
+/// Words that name what is left out.
 const LEFT_OUT_WORDS: [(&str, ()); 22] = [
     ("goto", ()),
     ("union", ()),
@@ -46,7 +46,7 @@ const LEFT_OUT_WORDS: [(&str, ()); 22] = [
     ("_Generic", ()),
     ("_Imaginary", ()),
     ("_Noreturn", ()),
-    ("_StaticSpecifier_assert", ()),
+    ("_Static_assert", ()),
     ("_Thread_local", ()),
 ];
 
