@@ -1,5 +1,5 @@
 -- Laws of the arena: what each call keeps.
-use Rattle.std.proofs.Common.{◌≡◌, ◌≢◌, inl, inr, ℕ, ◌+◌, ◌*◌, ◌^◌, ◌<◌, ◌≤◌, Bool, List, [], ◌∷◌, ◌++◌, Some, get_or, length, map, take, sym, ap, ◌∙◌, subst, arith}
+use Rattle.std.proofs.Common.{◌≡◌, ◌≢◌, inl, inr, ℕ, ◌+◌, ◌*◌, ◌<◌, ◌≤◌, Bool, List, [], ◌∷◌, ◌++◌, Some, get_or, length, map, take, sym, ap, ◌∙◌, subst, arith}
 use Rattle.std.proofs.lemmas.Bool.{cases_eq}
 use Rattle.std.proofs.lemmas.Option.{slice_get_within, get_or_from_slice_get}
 use Rattle.std.proofs.lemmas.List.{get_or-map, length_push, length-map, length-take-le}
@@ -9,7 +9,8 @@ use Rattle.gate_net.specs.declared.literal.Gate.TheVariants.{And, Xor}
 use Rattle.gate_net.specs.Literal.{wire_of}
 use Rattle.gate_net.specs.Circuit.{Circuit, Stands, with_gate, wire_count}
 use Rattle.gate_net.specs.Meaning.{value}
-use Rattle.gate_net.specs.Shape.{AreOrdered, IsCircuit, UsesBelow}
+use Rattle.hy_links.specs.Arena.{max_nodes}
+use Rattle.gate_net.specs.Shape.{AreOrdered, IsCircuit, UsesBelow, gate_limit}
 use Rattle.gate_net.proofs.MeaningLaws.{AreOrdered-at}
 use Rattle.gate_arena.specs.Paths.{DependsOn, itself}
 use Rattle.gate_arena.specs.Values.{HasValue, HasValuesOf, KeepsValues}
@@ -27,7 +28,7 @@ next-uses starts i gates so_far d ordered h is =
     let long : length so_far ≡ i = ap length is ∙ length-take-le i gates (omega arith) in
     subst (λ (n : ℕ). UsesBelow (starts + n) (get_or gates i d)) (sym long) (AreOrdered-at starts gates i d ordered h)
 
-AreWithin-ordered : (n : Circuit) → AreOrdered (1 + n.ins) n.gates → AreWithin n
+pub AreWithin-ordered : (n : Circuit) → AreOrdered (1 + n.ins) n.gates → AreWithin n
 AreWithin-ordered n ordered = record {
   each = λ k g s.
       let within : k < length n.gates = slice_get_within n.gates k g s in
@@ -35,7 +36,7 @@ AreWithin-ordered n ordered = record {
       UsesBelow-more (1 + n.ins + k) (wire_count n) g (omega arith) uses;
 }
 
-pub IsArena-net : (n m : Circuit) (before known : ℕ) → IsCircuit n → length n.gates ≤ 2 ^ 22 → m ≡ n → before ≡ 1 + n.ins → known ≡ wire_count n → IsArena m before known
+pub IsArena-net : (n m : Circuit) (before known : ℕ) → IsCircuit n → length n.gates ≤ gate_limit → m ≡ n → before ≡ 1 + n.ins → known ≡ wire_count n → IsArena m before known
 IsArena-net n m before known circuit few same before_is known_is = subst (λ (x : Circuit). IsArena x before known) (sym same) (record {
   starts = before_is;
   wires = known_is;
@@ -65,7 +66,7 @@ HasValue-net n m ordered same bits l h = subst (λ (x : Circuit). HasValue x bit
 
 -- ---- a gate more
 
-AreWithin-with_gate : (n : Circuit) (g : Gate) → AreWithin n → UsesBelow (wire_count n) g → AreWithin (with_gate n g)
+pub AreWithin-with_gate : (n : Circuit) (g : Gate) → AreWithin n → UsesBelow (wire_count n) g → AreWithin (with_gate n g)
 AreWithin-with_gate n g within uses = record {
   each = λ k h s. elim (cases_eq k (length n.gates)) [
     | inl last ↦
@@ -80,7 +81,7 @@ AreWithin-with_gate n g within uses = record {
     same : {x y : Gate} → Some x ≡ Some y → x ≡ y
     same e = cc
 
-pub IsArena-add : (n m : Circuit) (g : Gate) (before before2 known known2 : ℕ) → IsArena n before known → UsesBelow (wire_count n) g → length n.gates < 2 ^ 24 → m ≡ with_gate n g → before2 ≡ before → known2 ≡ known + 1 → IsArena m before2 known2
+pub IsArena-add : (n m : Circuit) (g : Gate) (before before2 known known2 : ℕ) → IsArena n before known → UsesBelow (wire_count n) g → length n.gates < max_nodes → m ≡ with_gate n g → before2 ≡ before → known2 ≡ known + 1 → IsArena m before2 known2
 IsArena-add n m g before before2 known known2 a uses room same before_is known_is = subst (λ (x : Circuit). IsArena x before2 known2) (sym same) (record {
   starts = before_is ∙ a.starts;
   wires = omega (arith, a.wires, known_is, length_push n.gates g);
@@ -111,6 +112,16 @@ replaced-uses : (wires v : ℕ) (by : Lit) (g : Gate) → by.code < 2 * wires �
 replaced-uses wires v by (And a b) h u = (replaced-low wires v by a h u.0, replaced-low wires v by b h u.1)
 replaced-uses wires v by (Xor a b) h u = (replaced-low wires v by a h u.0, replaced-low wires v by b h u.1)
 
+pub AreWithin-replaced : (n : Circuit) (v : ℕ) (by : Lit) → AreWithin n → Stands n by → AreWithin (replaced v by n)
+AreWithin-replaced n v by within stands =
+    let wires : wire_count (replaced v by n) ≡ wire_count n = omega (arith, length-map n.gates (replaced_gate v by)) in
+    record {
+      each = λ k g s.
+          let w = was_gate n v by k g s in
+          subst (UsesBelow (wire_count (replaced v by n))) (sym w.is)
+          (subst (λ (c : ℕ). UsesBelow c (replaced_gate v by w.old)) (sym wires) (replaced-uses (wire_count n) v by w.old stands (within.each k w.old w.stood)));
+    }
+
 pub IsArena-replace : (n m : Circuit) (v : ℕ) (by : Lit) (before before2 known known2 : ℕ) → IsArena n before known → Stands n by → ¬ DependsOn n v (wire_of by) → m ≡ replaced v by n → before2 ≡ before → known2 ≡ known → IsArena m before2 known2
 IsArena-replace n m v by before before2 known known2 a stands free same before_is known_is =
     let long : length (map (replaced_gate v by) n.gates) ≡ length n.gates = length-map n.gates (replaced_gate v by) in
@@ -118,12 +129,7 @@ IsArena-replace n m v by before before2 known known2 a stands free same before_i
     subst (λ (x : Circuit). IsArena x before2 known2) (sym same) (record {
       starts = before_is ∙ a.starts;
       wires = known_is ∙ a.wires ∙ sym wires;
-      within = record {
-        each = λ k g s.
-            let w = was_gate n v by k g s in
-            subst (UsesBelow (wire_count (replaced v by n))) (sym w.is)
-            (subst (λ (c : ℕ). UsesBelow c (replaced_gate v by w.old)) (sym wires) (replaced-uses (wire_count n) v by w.old stands (a.within.each k w.old w.stood)));
-      };
+      within = AreWithin-replaced n v by a.within stands;
       outs = λ i d h.
           let inside : i < length n.outs = omega (arith, length-map n.outs (replaced_lit v by)) in
           let there : get_or (map (replaced_lit v by) n.outs) i d ≡ replaced_lit v by (get_or n.outs i d) = get_or-map (replaced_lit v by) n.outs i d d inside in

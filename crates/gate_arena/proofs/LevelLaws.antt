@@ -1,5 +1,5 @@
 -- Laws of levels: each wire has one at most, and what calls make of them.
-use Rattle.std.proofs.Common.{◌≡◌, ◌≢◌, ◌⊎◌, inl, inr, ℕ, ◌+◌, ◌<◌, ◌≤◌, max, List, [], ◌∷◌, ◌++◌, Some, length, slice_get, refl, sym, ap, ◌∙◌, subst, arith}
+use Rattle.std.proofs.Common.{◌≡◌, ◌≢◌, inl, inr, ℕ, ◌≤◌, Some, slice_get, refl, sym, ap, ◌∙◌, subst, arith}
 use Rattle.std.proofs.lemmas.Bool.{cases_eq}
 use Rattle.std.proofs.lemmas.Option.{slice_get_within, slice_get-map}
 use Rattle.std.specs.Prelude.{option_map}
@@ -8,7 +8,7 @@ use Rattle.gate_net.specs.declared.literal.Gate.{Gate}
 use Rattle.gate_net.specs.declared.literal.Gate.TheVariants.{And, Xor}
 use Rattle.gate_net.specs.Literal.{wire_of}
 use Rattle.gate_net.specs.Circuit.{Circuit, with_gate}
-use Rattle.gate_arena.specs.Change.{moved, replaced, replaced_gate, replaced_lit}
+use Rattle.gate_arena.specs.Change.{replaced, replaced_gate}
 use Rattle.gate_arena.specs.Levels.{HasLevel, inner, level_of_gate, outer}
 use Rattle.gate_arena.specs.Paths.{DependsOn, Takes, itself, through}
 use Rattle.gate_arena.specs.Wiring.{left_of, right_of}

@@ -1,5 +1,5 @@
 -- Laws of the net in the order of the walk: it is a circuit, and its outputs have their values.
-use Rattle.std.proofs.Common.{◌≡◌, ◌≢◌, inl, inr, ℕ, zero, suc, ◌+◌, ◌-◌, ◌*◌, ◌/◌, ◌%◌, ◌^◌, ◌<◌, ◌≤◌, max, Bool, true, false, not, ◌&&◌, cond, eqb, List, [], ◌∷◌, ◌++◌, Option, Some, Result, Ok, Err, get_or, take, length, map, slice_get, refl, sym, ap, ◌∙◌, subst, arith, add-one, add-zero}
+use Rattle.std.proofs.Common.{◌≡◌, ◌≢◌, inl, inr, ℕ, zero, suc, ◌+◌, ◌-◌, ◌*◌, ◌/◌, ◌%◌, ◌<◌, ◌≤◌, max, Bool, true, false, not, ◌&&◌, cond, eqb, List, [], ◌∷◌, ◌++◌, Option, Some, Result, Ok, Err, get_or, take, length, map, slice_get, refl, sym, ap, ◌∙◌, subst, arith, add-one, add-zero}
 use Rattle.std.specs.Prelude.{nat_le, nat_lt, unwrap_or}
 use Rattle.std.specs.Result.{IfOk}
 use Rattle.std.specs.List.{Contains}
@@ -12,7 +12,8 @@ use Rattle.gate_net.specs.declared.literal.Gate.TheVariants.{And, Xor}
 use Rattle.gate_net.specs.Literal.{and_gate, plain_xor_gate, wire_of}
 use Rattle.gate_net.specs.Circuit.{Circuit}
 use Rattle.gate_net.specs.Meaning.{as_bits, value, wires, xor}
-use Rattle.gate_net.specs.Shape.{AreOrdered, IsCircuit, UsesBelow}
+use Rattle.hy_links.specs.Arena.{max_nodes}
+use Rattle.gate_net.specs.Shape.{AreOrdered, IsCircuit, UsesBelow, variable_limit}
 use Rattle.gate_net.proofs.MeaningLaws.{get_or-wires-zero}
 use Rattle.gate_arena.specs.Wiring.{left_of, right_of}
 use Rattle.gate_arena.specs.Values.{Carries, HasValue, KeepsOutputs, bit_of, bit_of_gate, constant, given, made}
@@ -187,7 +188,7 @@ module _ (n : Circuit) (order : List ℕ) (closed : IsClosed n order) (once : Ar
     whole : take (length order) order ≡ order
     whole = take_all (length order) order (omega arith)
 
-    pub IsCircuit-ordered : n.ins ≤ 2 ^ 29 → n.budget ≤ 2 ^ 29 → length order ≤ 2 ^ 29 → IsCircuit (ordered_net n order)
+    pub IsCircuit-ordered : n.ins ≤ variable_limit → n.budget ≤ variable_limit → length order ≤ variable_limit → IsCircuit (ordered_net n order)
     IsCircuit-ordered few low short = record {
       ordered = ordered;
       outs = λ i d h.
@@ -309,7 +310,7 @@ made-net n order ins gates outs budget len e f g h k =
     ∙ ap (λ (b : ℕ). let m : Circuit = record { ins = n.ins; gates = map (new_gate_at n order) order; outs = map (new_lit n order) n.outs; budget = b } in m) (h ∙ ap (max n.budget) same)
 
 -- where it was made of what the walk gave
-module _ (n : Circuit) (w : Walked) (walk : IsWalk n w.order) (rest : IsAtRest n w) (limits : (n.ins ≤ 2 ^ 29) × (n.budget ≤ 2 ^ 29) × (length n.gates ≤ 2 ^ 24)) (m : Circuit) (same : m ≡ ordered_net n w.order) where
+module _ (n : Circuit) (w : Walked) (walk : IsWalk n w.order) (rest : IsAtRest n w) (limits : (n.ins ≤ variable_limit) × (n.budget ≤ variable_limit) × (length n.gates ≤ max_nodes)) (m : Circuit) (same : m ≡ ordered_net n w.order) where
   pub IsCircuit-made : IsCircuit m
   IsCircuit-made =
       subst IsCircuit (sym same)

@@ -1,5 +1,5 @@
 -- The levels of a net are those of the arena that it was made of, and that of the arena made of a net likewise.
-use Rattle.std.proofs.Common.{◌≡◌, ◌⊎◌, inl, inr, ℕ, zero, suc, ◌+◌, ◌-◌, ◌<◌, ◌≤◌, max, List, [], ◌∷◌, Some, length, get_or, map, replicate, slice_get, refl, sym, ap, ◌∙◌, subst, arith}
+use Rattle.std.proofs.Common.{◌≡◌, ◌⊎◌, inl, inr, ℕ, zero, suc, ◌+◌, ◌-◌, ◌<◌, ◌≤◌, max, List, [], ◌∷◌, Some, get_or, replicate, slice_get, refl, sym, ap, ◌∙◌, subst, arith}
 use Rattle.std.specs.List.{Contains}
 use Rattle.std.proofs.lemmas.Bool.{cases_lt}
 use Rattle.std.proofs.lemmas.Option.{slice_get-get_or}
@@ -13,8 +13,8 @@ use Rattle.gate_net.specs.Meaning.{as_levels, gate_reading, level, reading, star
 use Rattle.gate_net.specs.Shape.{AreOrdered}
 use Rattle.gate_net.proofs.MeaningLaws.{even_or_odd, get_or-run, get_or-wires-gate, length-start, reading-even, reading-odd, start-levels}
 use Rattle.gate_arena.specs.Levels.{HasLevel, inner, level_of_gate, outer}
-use Rattle.gate_arena.specs.Order.{IsDone, IsWalk, new_gate, new_gate_at, new_lit, new_wire, ordered_net}
-use Rattle.gate_arena.specs.Paths.{IsAcyclic, Takes}
+use Rattle.gate_arena.specs.Order.{IsDone, IsWalk, new_gate, new_lit, new_wire, ordered_net}
+use Rattle.gate_arena.specs.Paths.{IsAcyclic}
 use Rattle.gate_arena.specs.Wiring.{left_of, right_of}
 use Rattle.gate_arena.proofs.NetLaws.{new_wire-low, ordered, wire-new}
 use Rattle.gate_arena.proofs.NormalLaws.{Ended, and-cases, at-place, closed, ended, new_gate-takes, once, xor-cases}

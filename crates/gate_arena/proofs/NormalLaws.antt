@@ -1,10 +1,10 @@
 -- The net of an arena without constants, doubles and equals is reduced.
-use Rattle.std.proofs.Common.{◌≡◌, ◌≢◌, ◌⊎◌, inl, inr, ℕ, zero, suc, ◌+◌, ◌*◌, ◌/◌, ◌%◌, ◌<◌, ◌≤◌, Bool, true, false, nat_lt, cond, List, [], ◌∷◌, Some, length, get_or, map, slice_get, refl, sym, ap, ◌∙◌, subst, arith}
-use Rattle.std.specs.List.{All, Contains}
+use Rattle.std.proofs.Common.{◌≡◌, ◌≢◌, ◌⊎◌, inl, inr, ℕ, ◌+◌, ◌*◌, ◌/◌, ◌%◌, ◌<◌, ◌≤◌, Bool, true, false, nat_lt, List, [], Some, length, get_or, map, slice_get, refl, sym, ap, ◌∙◌, subst, arith}
+use Rattle.std.specs.List.{Contains}
 use Rattle.std.proofs.lemmas.Bool.Decides.{Decides-ltb}
 use Rattle.std.proofs.lemmas.Bool.{cases_eq}
-use Rattle.std.proofs.lemmas.Option.{slice_get-get_or, slice_get_within, get_or_from_slice_get}
-use Rattle.std.proofs.lemmas.List.{get_or_default, length-map}
+use Rattle.std.proofs.lemmas.Option.{slice_get-get_or}
+use Rattle.std.proofs.lemmas.List.{length-map}
 use Rattle.std.proofs.Math.ListN.{get_or-map}
 use Rattle.gate_net.specs.declared.literal.Lit.{Lit}
 use Rattle.gate_net.specs.declared.literal.Gate.{Gate}
@@ -12,7 +12,7 @@ use Rattle.gate_net.specs.declared.literal.Gate.TheVariants.{And, Xor}
 use Rattle.gate_net.specs.Literal.{AreApart, and_gate, plain_xor_gate, wire_of}
 use Rattle.gate_net.specs.Circuit.{Circuit}
 use Rattle.gate_net.specs.Shape.{IsNormal, IsNormalGate}
-use Rattle.gate_net.specs.Paths.{DependsOn, IsReduced, ReachesOutput, Takes, itself, through}
+use Rattle.gate_net.specs.Paths.{DependsOn, IsReduced, ReachesOutput, itself, through}
 use Rattle.gate_arena.specs.Inside.{AreOnce}
 use Rattle.gate_arena.specs.Normal.{IsPlain, IsPlainGate, ascending}
 use Rattle.gate_arena.specs.Order.{IsDone, IsWalk, new_gate, new_gate_at, new_lit, new_wire, ordered_net}

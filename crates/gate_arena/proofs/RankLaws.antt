@@ -1,5 +1,5 @@
 -- A rank that falls along inputs says what a wire does not depend on, and gates that come and wires that are replaced keep one.
-use Rattle.std.proofs.Common.{◌≡◌, ◌≢◌, ◌⊎◌, inl, inr, ℕ, ◌+◌, ◌<◌, ◌≤◌, max, Bool, true, false, eqb, cond, List, [], ◌∷◌, ◌++◌, Some, length, get_or, slice_get, refl, sym, ap, ◌∙◌, subst, arith}
+use Rattle.std.proofs.Common.{◌≡◌, ◌≢◌, ◌⊎◌, inl, inr, ℕ, ◌+◌, ◌<◌, ◌≤◌, max, true, false, eqb, [], ◌∷◌, ◌++◌, Some, length, slice_get, refl, sym, ap, ◌∙◌, subst, arith}
 use Rattle.std.proofs.lemmas.Option.{slice_get_within, get_or_from_slice_get}
 use Rattle.std.proofs.lemmas.List.{get_or_push, length_push}
 use Rattle.gate_net.specs.declared.literal.Lit.{Lit}
@@ -8,8 +8,7 @@ use Rattle.gate_net.specs.Literal.{wire_of}
 use Rattle.gate_net.specs.Circuit.{Circuit, wire_count, with_gate}
 use Rattle.gate_net.specs.Shape.{AreOrdered, UsesBelow}
 use Rattle.gate_arena.specs.Change.{replaced}
-use Rattle.gate_arena.specs.Inside.{AreWithin}
-use Rattle.gate_arena.specs.Paths.{DependsOn, IsRanked, Takes, itself, rank_with, through}
+use Rattle.gate_arena.specs.Paths.{DependsOn, IsRanked, itself, rank_with, through}
 use Rattle.gate_arena.specs.Wiring.{left_of, right_of}
 use Rattle.gate_arena.proofs.PathLaws.{earlier, taken-low, takes_cases, took}
 

@@ -1,5 +1,5 @@
 -- The order of a walk has exactly the places of the gates that reach an output, each once.
-use Rattle.std.proofs.Common.{◌≡◌, ◌≢◌, ◌⊎◌, inl, inr, ℕ, zero, suc, ◌+◌, ◌<◌, ◌≤◌, List, [], ◌∷◌, ◌++◌, Some, length, get_or, take, slice_get, refl, sym, ap, ◌∙◌, subst, arith}
+use Rattle.std.proofs.Common.{◌≡◌, ◌≢◌, ◌⊎◌, inl, inr, ℕ, zero, suc, ◌+◌, ◌<◌, List, [], ◌∷◌, Some, length, get_or, take, slice_get, refl, sym, ap, ◌∙◌, subst, arith}
 use Rattle.std.specs.List.{Contains}
 use Rattle.std.proofs.lemmas.Option.{slice_get_within}
 use Rattle.gate_net.specs.declared.literal.Lit.{Lit}
@@ -8,7 +8,7 @@ use Rattle.gate_net.specs.Literal.{wire_of}
 use Rattle.gate_net.specs.Circuit.{Circuit}
 use Rattle.gate_arena.specs.Inside.{AreOnce}
 use Rattle.gate_arena.specs.Order.{IsDone, IsWalk, Visits, VisitsAll, done, fresh}
-use Rattle.gate_arena.specs.Paths.{DependsOn, IsAcyclic, IsReachedOrder, ReachesOutput, Takes, itself, through}
+use Rattle.gate_arena.specs.Paths.{DependsOn, IsAcyclic, IsReachedOrder, ReachesOutput, itself, through}
 use Rattle.gate_arena.specs.Wiring.{left_of, right_of}
 use Rattle.gate_arena.proofs.NetLaws.{IsClosed, IsClosed-walk}
 use Rattle.gate_arena.proofs.PathLaws.{no_cycle}

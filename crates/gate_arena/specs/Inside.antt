@@ -1,13 +1,13 @@
 -- What the parts of an arena stand for. Private to the crate: contracts of `Arena` name none of it.
-use Rattle.std.specs.Prelude.{◌≡◌, ◌==◌, ◌⊎◌, ℕ, ◌+◌, ◌*◌, ◌^◌, ◌<◌, ◌≤◌, List, [], ◌∷◌, Option, Some, None, get_or, length, option_map, slice_get, if◌then◌else◌}
+use Rattle.std.specs.Prelude.{◌≡◌, ◌==◌, ◌⊎◌, ℕ, ◌+◌, ◌*◌, ◌<◌, ◌≤◌, List, [], ◌∷◌, Option, Some, None, get_or, length, option_map, slice_get, if◌then◌else◌}
 use Rattle.std.specs.List.{All, Contains, position}
 use Rattle.hy_links.specs.declared.Link.{Link}
-use Rattle.hy_links.specs.Arena.{Arena, chain}
+use Rattle.hy_links.specs.Arena.{Arena, chain, max_nodes}
 use Rattle.gate_net.specs.declared.literal.Lit.{Lit}
 use Rattle.gate_net.specs.declared.literal.Gate.{Gate}
 use Rattle.gate_net.specs.declared.literal.Gate.TheVariants.{And, Xor}
 use Rattle.gate_net.specs.Literal.{wire_of}
-use Rattle.gate_net.specs.Shape.{UsesBelow}
+use Rattle.gate_net.specs.Shape.{UsesBelow, variable_limit}
 use Rattle.gate_net.specs.Circuit.{Circuit, Stands, wire_count}
 use Rattle.gate_arena.specs.Wiring.{left_of, right_of, wire_at}
 use Rattle.gate_arena.specs.Paths.{IsAcyclic, Takes}
@@ -83,9 +83,9 @@ pub record IsArena (n : Circuit) (before known : ℕ) : Type 0 where
   pub within : AreWithin n
   pub outs : All (Stands n) n.outs
   pub acyclic : IsAcyclic n
-  pub few_ins : n.ins ≤ 2 ^ 29
-  pub low_budget : n.budget ≤ 2 ^ 29
-  pub few_gates : length n.gates ≤ 2 ^ 24
+  pub few_ins : n.ins ≤ variable_limit
+  pub low_budget : n.budget ≤ variable_limit
+  pub few_gates : length n.gates ≤ max_nodes
 
 -- ---- a walk under way
 

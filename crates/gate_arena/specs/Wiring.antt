@@ -5,7 +5,6 @@ use Rattle.hy_links.specs.declared.Link.{Link}
 use Rattle.hy_links.specs.Arena.{same_link}
 use Rattle.gate_net.specs.declared.literal.Lit.{Lit}
 use Rattle.gate_net.specs.declared.literal.Gate.{Gate}
-use Rattle.gate_net.specs.declared.literal.Gate.TheVariants.{And, Xor}
 use Rattle.gate_net.specs.Literal.{wire_of}
 pub use Rattle.gate_net.specs.Literal.{left_of, right_of}
 use Rattle.gate_net.specs.Circuit.{Circuit}

@@ -2,11 +2,11 @@
 ghost use Rattle.std.specs.Prelude.{◌≡◌, ◌+◌, ◌*◌, ◌<◌, ◌≤◌, ◌^◌, ℕ, Bool, List, Some, get_or, length, slice_get, IfErr, IfOk, IfSome, MatchOption, OnErr, OnOk};
 ghost use Rattle.std.specs.Option.{ForSome};
 ghost use Rattle.std.specs.List.{All};
-ghost use Rattle.hy_links.specs.Arena.{link_after};
+ghost use Rattle.hy_links.specs.Arena.{link_after, max_lists, max_nodes};
 ghost use Rattle.gate_net.specs.Literal.{wire_of};
 ghost use Rattle.gate_net.specs.Circuit.{Stands, wire_count, with_gate};
 ghost use Rattle.gate_net.specs.Meaning.{value};
-ghost use Rattle.gate_net.specs.Shape.{AreOrdered, UsesBelow};
+ghost use Rattle.gate_net.specs.Shape.{AreOrdered, UsesBelow, gate_limit, variable_limit};
 ghost use Rattle.gate_arena.specs.Wiring.{AreUses, HasVariable, gate_of, uses_of, wire_at};
 ghost use Rattle.gate_arena.specs.Paths.{DependsOn, IsAcyclic};
 ghost use Rattle.gate_arena.specs.Values.{HasValue, HasValuesOf, KeepsOutputs, KeepsValues};
@@ -44,8 +44,8 @@ impl Model for Arena {
 
 /// These gates, over so many wires before them.
 fn wires_of(alloc: Global, starts: u32, gates: &[Gate]) -> Result<Wires, GateFault>
-    requires few { starts ≤ 2 ^ 30 }
-    requires room { length gates.now ≤ 2 ^ 22 }
+    requires few { starts ≤ max_lists }
+    requires room { length gates.now ≤ gate_limit }
     requires ordered { AreOrdered starts gates.now }
     ensures starts { IfOk result (λ w. w.starts ≡ starts) }
     ensures gates { IfOk result (λ w. w.gates ≡ gates.now) }
@@ -59,9 +59,13 @@ fn wires_of(alloc: Global, starts: u32, gates: &[Gate]) -> Result<Wires, GateFau
 }
 
 impl Arena {
-    /// The arena of a net. Time grows with the numbers of its inputs, gates and outputs.
+    /// The arena of a net of at most `GATE_LIMIT` gates. Time grows with the numbers of its inputs, gates and outputs.
+    ///
+    /// # Errors
+    ///
+    /// Memory ran out.
     pub fn of(alloc: Global, net: &Net) -> Result<Arena, GateFault>
-        requires { length net.now.gates ≤ 2 ^ 22 }
+        requires { length net.now.gates ≤ gate_limit }
         ensures circuit { IfOk result (λ a. a.circuit ≡ net.now) }
 
         // Each literal has the value that the net gives it.
@@ -89,10 +93,10 @@ impl Arena {
         self.ins
     }
 
-    /// How many gates have been made, whether they reach an output or not.
+    /// How many gates have been made, at most `MAX_NODES`, whether they reach an output or not.
     pub fn nodes(&self) -> u32
         ensures value { result ≡ length self.now.circuit.gates }
-        ensures few { result ≤ 2 ^ 24 }
+        ensures few { result ≤ max_nodes }
     {
         self.wires.gates().len() as u32
     }
@@ -122,10 +126,14 @@ impl Arena {
         self.wires.gates().get(place as usize).copied()
     }
 
-    /// A new gate, which makes the next variable. An equal gate is not looked for.
+    /// A new gate, which makes the next variable, where the arena has fewer than `MAX_NODES` gates. An equal gate is not looked for.
+    ///
+    /// # Errors
+    ///
+    /// Memory ran out, and the arena is as before.
     pub fn add(&mut self, gate: Gate) -> Result<Lit, GateFault>
         requires stand { UsesBelow (wire_count self.old.circuit) gate }
-        requires room { length self.old.circuit.gates < 2 ^ 24 }
+        requires room { length self.old.circuit.gates < max_nodes }
         ensures circuit { OnOk result (self.new.circuit ≡ with_gate self.old.circuit gate) }
         ensures answer { IfOk result (λ l. l.code ≡ 2 * (self.old.circuit.ins + length self.old.circuit.gates) + 2) }
         ensures values { OnOk result (KeepsValues self.old.circuit self.new.circuit) }
@@ -202,7 +210,7 @@ impl Arena {
         ensures one { (bits : List Bool) (l : Lit) (b c : Bool) → HasValue self.now.circuit bits l b → HasValue self.now.circuit bits l c → b ≡ c }
         ensures uses { (k : ℕ) (g : Gate) → slice_get self.now.circuit.gates k ≡ Some g → UsesBelow (wire_count self.now.circuit) g }
         ensures outs { All (Stands self.now.circuit) self.now.circuit.outs }
-        ensures limits { (self.now.circuit.ins ≤ 2 ^ 29) × (self.now.circuit.budget ≤ 2 ^ 29) × (length self.now.circuit.gates ≤ 2 ^ 24) }
+        ensures limits { (self.now.circuit.ins ≤ variable_limit) × (self.now.circuit.budget ≤ variable_limit) × (length self.now.circuit.gates ≤ max_nodes) }
     {
         let _ = &self.wires;
     }

@@ -3,6 +3,7 @@ ghost use Rattle.std.specs.Prelude.{◌≡◌, ◌+◌, ◌-◌, ◌^◌, ◌<�
 ghost use Rattle.std.specs.List.{Contains};
 ghost use Rattle.gate_net.specs.Literal.{wire_of};
 ghost use Rattle.gate_net.specs.Circuit.{Stands, wire_count};
+ghost use Rattle.hy_links.specs.Arena.{max_nodes};
 ghost use Rattle.gate_net.specs.Shape.{UsesBelow};
 ghost use Rattle.gate_arena.specs.Wiring.{left_of, right_of};
 ghost use Rattle.gate_arena.specs.Values.{KeepsOutputs};
@@ -179,7 +180,7 @@ impl Walk {
         requires rest { IsAtRest arena.now.circuit self.now }
         requires place { place < self.now.count }
         ensures value { result ≡ unwrap_or (number_of self.now.order place) 0 }
-        ensures low { result ≤ 2 ^ 24 }
+        ensures low { result ≤ max_nodes }
     {
         arena.has_values();
         match self.number_of(place) {

@@ -2,7 +2,7 @@
 ghost use Rattle.std.specs.Prelude.{◌≡◌, ◌≢◌, ◌+◌, ◌<◌, ◌≤◌, ◌^◌, ◌++◌, ◌∷◌, [], Some, get_or, length, map, slice_get, set, IfErr, IfOk, IfSome, MatchOption, OnErr, OnOk};
 ghost use Rattle.std.specs.Option.{ForSome};
 ghost use Rattle.std.specs.List.{Contains};
-ghost use Rattle.hy_links.specs.Arena.{link_after};
+ghost use Rattle.hy_links.specs.Arena.{link_after, max_lists, max_nodes};
 ghost use Rattle.gate_net.specs.Literal.{wire_of};
 ghost use Rattle.gate_net.specs.Shape.{UsesBelow};
 ghost use Rattle.gate_arena.specs.Wiring.{AreUses, input_of, wire_at};
@@ -84,7 +84,7 @@ impl Model for Wires {
 impl Wires {
     /// No gates, over so many wires.
     pub fn new(alloc: Global, starts: u32) -> Result<Wires, GateFault>
-        requires { starts ≤ 2 ^ 30 }
+        requires { starts ≤ max_lists }
         ensures starts { IfOk result (λ w. w.starts ≡ starts) }
         ensures gates { IfOk result (λ w. w.gates ≡ []) }
         ensures memory { IfErr result (λ e. e ≡ GateFault.Memory) }
@@ -108,7 +108,7 @@ impl Wires {
     /// A new gate. It makes the next wire.
     pub fn push(&mut self, gate: Gate) -> Result<(), GateFault>
         requires within { UsesBelow (self.old.starts + length self.old.gates) gate }
-        requires room { length self.old.gates < 2 ^ 24 }
+        requires room { length self.old.gates < max_nodes }
         ensures starts { self.new.starts ≡ self.old.starts }
         ensures gates { OnOk result (self.new.gates ≡ self.old.gates ++ gate ∷ []) }
         ensures err { OnErr result (self.new ≡ self.old) }

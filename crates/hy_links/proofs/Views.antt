@@ -1,5 +1,5 @@
 -- What the fields of an arena are seen as, and what each call leaves of it.
-use Rattle.std.proofs.Common.{◌≡◌, ◌≢◌, ℕ, zero, suc, ◌+◌, ◌*◌, ◌^◌, ◌<◌, ◌≤◌, Bool, true, false, eqb, List, [], ◌∷◌, ◌++◌, length, map, get_or, set, replicate, Option, Some, None, Result, Ok, Err, sym, ◌∙◌, ap, subst, refl, inl, inr, arith, get_or-set_other, get_or-set_same, length-set}
+use Rattle.std.proofs.Common.{◌≡◌, ◌≢◌, ℕ, zero, suc, ◌+◌, ◌*◌, ◌<◌, ◌≤◌, Bool, true, false, eqb, List, [], ◌∷◌, ◌++◌, length, map, get_or, set, replicate, Option, Some, None, Result, Ok, Err, sym, ◌∙◌, ap, subst, refl, inl, inr, arith, get_or-set_other, get_or-set_same, length-set}
 use Rattle.std.specs.List.{Contains, IsDistinct, list_any, slice_get}
 use Rattle.std.specs.Option.{option_map, MatchOption}
 use Rattle.std.specs.Result.{OnErr}
@@ -15,7 +15,7 @@ use Rattle.hy_links.specs.declared.ring.Place.TheVariants.{Head, Link as At}
 use Rattle.hy_links.specs.declared.ring.Neighbours.{Neighbours}
 use Rattle.hy_links.specs.declared.ring.Rings.{Rings}
 use Rattle.hy_links.specs.declared.Links.TheInside.{Inside}
-use Rattle.hy_links.specs.Arena.{Arena, IsLinkedOnce, same_link, without, link_after}
+use Rattle.hy_links.specs.Arena.{Arena, IsLinkedOnce, link_after, max_lists, max_nodes, same_link, without}
 use Rattle.hy_links.specs.Ring.{neighbours_at, HasPlace, after_of, before_of, Edge, Path, Joins, Grows, IsNew, alone}
 use Rattle.hy_links.specs.Inside.{followed, chain_of, chains_of, Holds, arena_of, IsSound}
 use Rattle.hy_links.proofs.Places.{slot, link_within, link_same_from_slot, link_same_from_test, at_link, slice_get-push_before, slice_get-push_at, slice_get_some, cases_place, cases_link, same_link_true, same_link_false}
@@ -59,7 +59,7 @@ pub arena_is : (a : Inside) (chains : List (List Link)) → Holds a.rings chains
 unfolding arena_of
 arena_is a chains holds = ap (λ (c : List (List Link)). let v : Arena = record { lists = a.lists; nodes = a.nodes; chains = c } in v) (chains_is a.rings chains holds)
 
-pub sound : (a : Inside) (chains : List (List Link)) → length a.rings.heads.items ≡ a.lists + a.nodes → length a.rings.links.items ≡ 3 * a.nodes → a.lists ≤ 2 ^ 30 → a.nodes ≤ 2 ^ 24 → Holds a.rings chains → IsSound a
+pub sound : (a : Inside) (chains : List (List Link)) → length a.rings.heads.items ≡ a.lists + a.nodes → length a.rings.links.items ≡ 3 * a.nodes → a.lists ≤ max_lists → a.nodes ≤ max_nodes → Holds a.rings chains → IsSound a
 sound a chains heads links few_lists few_nodes holds = record {
   heads = heads;
   links = links;

@@ -1,7 +1,15 @@
 -- What contracts see of the links of an arena.
-use Rattle.std.specs.Prelude.{◌≡◌, ℕ, ◌+◌, ◌<◌, Bool, cond, ◌&&◌, ◌==◌, not, List, [], ◌∷◌, length, Option, None, slice_get, slice_index_or, filter, Contains}
+use Rattle.std.specs.Prelude.{◌≡◌, ℕ, ◌+◌, ◌^◌, ◌<◌, Bool, cond, ◌&&◌, ◌==◌, not, List, [], ◌∷◌, length, Option, None, slice_get, slice_index_or, filter, Contains}
 use Rattle.std.specs.List.{IsDistinct}
 use Rattle.hy_links.specs.declared.Link.{Link}
+
+-- the most lists that an arena is made with
+abbrev pub max_lists : ℕ
+max_lists = 2 ^ 30
+
+-- the most nodes of an arena
+abbrev pub max_nodes : ℕ
+max_nodes = 2 ^ 24
 
 -- how many lists it was made with, how many nodes were made since, and the list of each number:
 -- those that it was made with come first, then one for each node

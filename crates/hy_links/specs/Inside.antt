@@ -1,12 +1,12 @@
 -- What the fields of `Links` stand for.
-use Rattle.std.specs.Prelude.{◌≡◌, ℕ, suc, zero, ◌+◌, ◌*◌, ◌^◌, ◌<◌, ◌≤◌, List, [], ◌∷◌, length, map, Option, Some, None, slice_index_or}
+use Rattle.std.specs.Prelude.{◌≡◌, ℕ, suc, zero, ◌+◌, ◌*◌, ◌<◌, ◌≤◌, List, [], ◌∷◌, length, map, Option, Some, None, slice_index_or}
 use Rattle.std.specs.List.{range_with_len}
 use Rattle.hy_links.specs.declared.Link.{Link}
 use Rattle.hy_links.specs.declared.ring.Place.{Place}
 use Rattle.hy_links.specs.declared.ring.Place.TheVariants.{Head, Link as At}
 use Rattle.hy_links.specs.declared.ring.Rings.{Rings}
 use Rattle.hy_links.specs.declared.Links.TheInside.{Inside}
-use Rattle.hy_links.specs.Arena.{Arena}
+use Rattle.hy_links.specs.Arena.{Arena, max_lists, max_nodes}
 use Rattle.hy_links.specs.Ring.{after_of, Path}
 
 -- the links met on the way from a place to the next head, n at most
@@ -34,6 +34,6 @@ arena_of a = record { lists = a.lists; nodes = a.nodes; chains = chains_of a.rin
 pub record IsSound (a : Inside) : Type 0 where
   pub heads : length a.rings.heads.items ≡ a.lists + a.nodes
   pub links : length a.rings.links.items ≡ 3 * a.nodes
-  pub few_lists : a.lists ≤ 2 ^ 30
-  pub few_nodes : a.nodes ≤ 2 ^ 24
+  pub few_lists : a.lists ≤ max_lists
+  pub few_nodes : a.nodes ≤ max_nodes
   pub holds : Holds a.rings (chains_of a.rings)

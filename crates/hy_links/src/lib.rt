@@ -8,7 +8,7 @@
 //!
 //! Each clause stands in `src/lib.rt`; read `specs/Arena.antt`.
 //!
-//! - `Links::new` has so many empty lists and no node.
+//! - `Links::new` makes an arena of as many empty lists as are asked for, at most `MAX_LISTS`, and no node.
 //! - `Links::make` adds a node whose links stand in no list, and an empty list; it is full exactly at `MAX_NODES` nodes.
 //! - `Links::push` puts a link in front of a list, and all else stays.
 //! - `Links::unlink` takes a link out of its list, and all other orders stay.
@@ -20,7 +20,7 @@
 
 ghost use Rattle.std.specs.Prelude.{◌≡◌, ◌≢◌, ◌+◌, ◌^◌, ◌<◌, ◌≤◌, ◌↔◌, [], ◌∷◌, ◌++◌, replicate, map, slice_get, slice_set, Contains, IfOk, OnErr, MatchOption};
 ghost use Rattle.std.specs.Option.{ForSome};
-ghost use Rattle.hy_links.specs.Arena.{Arena, chain, HasList, HasLink, Stands, IsLinkedOnce, without, link_after};
+ghost use Rattle.hy_links.specs.Arena.{Arena, chain, HasList, HasLink, Stands, IsLinkedOnce, link_after, max_lists, max_nodes, without};
 
 mod ring;
 
@@ -28,8 +28,11 @@ use ring::{Place, Rings};
 use std::alloc::{AllocError, AllocFailed, Global};
 use std::marker::Model;
 
+/// The most lists that an arena is made with.
+pub const MAX_LISTS: u32 = 1 << 30;
+
 /// The most nodes of an arena.
-pub const MAX_NODES: u32 = 16_777_216;
+pub const MAX_NODES: u32 = 1 << 24;
 
 /// One of the three links of a node: `side` is 0, 1 or 2.
 #[derive(Clone, Copy, PartialEq, Eq, Debug)]
@@ -79,9 +82,9 @@ impl Model for Links {
 }
 
 impl Links {
-    /// An arena of `lists` empty lists and no node, in time linear in `lists`.
+    /// An arena of `lists` empty lists, at most `MAX_LISTS`, and no node. Time grows with `lists`.
     pub fn new(alloc: Global, lists: u32) -> Result<Links, LinkFault>
-        requires { lists ≤ 2 ^ 30 }
+        requires { lists ≤ max_lists }
         ensures ok { IfOk result (λ r. r ≡ record { lists = lists; nodes = 0; chains = replicate lists [] }) }
         ensures never_full { result ≢ Err LinkFault.Full }
     {
@@ -98,7 +101,7 @@ impl Links {
     pub fn make(&mut self) -> Result<u32, LinkFault>
         ensures number { IfOk result (λ k. k ≡ self.old.nodes) }
         ensures ok { IfOk result (λ _. self.new ≡ record self.old { nodes = self.old.nodes + 1; chains = self.old.chains ++ [] ∷ [] }) }
-        ensures full { (result ≡ Err LinkFault.Full) ↔ (self.old.nodes ≡ 2 ^ 24) }
+        ensures full { (result ≡ Err LinkFault.Full) ↔ (self.old.nodes ≡ max_nodes) }
         ensures err { OnErr result (self.new ≡ self.old) }
     {
         let node = self.nodes;
