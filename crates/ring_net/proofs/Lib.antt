@@ -1,3 +1,4 @@
 pub mod RingLaws
+pub mod DepthLaws
 pub mod PartLaws
 pub mod ModuleLaws

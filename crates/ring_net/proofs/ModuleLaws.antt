@@ -1,7 +1,7 @@
 -- Laws of modules: one of the arithmetic class is a part that a ring circuit computes.
-use Rattle.std.proofs.Common.{◌≡◌, ℕ, ◌+◌, ◌*◌, ◌<◌, ◌≤◌, Bool, true, false, List, [], ◌∷◌, ◌++◌, Option, Some, None, get_or, take, length, slice_get, refl, sym, ap, ◌∙◌, subst, arith}
+use Rattle.std.proofs.Common.{◌≡◌, ℕ, ◌<◌, ◌≤◌, Bool, true, false, List, Option, Some, None, get_or, take, length, slice_get, refl, sym, ap, ◌∙◌, subst, arith}
 use Rattle.std.specs.Prelude.{nat_le}
-use Rattle.std.specs.List.{All, Contains, list_all}
+use Rattle.std.specs.List.{list_all}
 use Rattle.std.proofs.lemmas.Bool.{leb-true}
 use Rattle.std.proofs.lemmas.List.{length-map}
 use Rattle.std.proofs.lemmas.List.Elements.{Contains-append_right}
@@ -16,13 +16,13 @@ use Rattle.word_graph.specs.Shape.{IsGraph}
 use Rattle.module_split.specs.declared.homes.Group.{Group}
 use Rattle.module_split.specs.declared.homes.Home.{Home}
 use Rattle.module_split.specs.declared.homes.Home.TheVariants.{Input, Constant, Inside}
-use Rattle.module_split.specs.declared.module.Class.TheVariants.{Arithmetic, Boolean}
+use Rattle.module_split.specs.declared.module.Class.TheVariants.{Arithmetic}
 use Rattle.module_split.specs.declared.module.Module.{Module}
 use Rattle.module_split.specs.Homes.{group_of, groups_of, home_at, home_of_operation, homes_of, is_arithmetic, is_ring, is_ring_operation, layer_of}
-use Rattle.module_split.specs.Cut.{below, class_of, ins_of, is_just, is_of, module_of, nodes_of, number_in, numbers_of, order_of, outs_of}
+use Rattle.module_split.specs.Cut.{below, class_of, ins_of, is_just, module_of, nodes_of, number_in, numbers_of, order_of, outs_of}
 use Rattle.module_split.specs.Modules.{IsPiece}
 use Rattle.module_split.proofs.PieceLaws.{IsPiece-of-nodes, and_parts, home-entry, node-of, number-home}
-use Rattle.ring_net.specs.Part.{IsOver, IsPart, IsRingModule, IsRingOperation}
+use Rattle.ring_net.specs.Part.{IsPart, IsRingModule, IsRingOperation}
 
 -- ---- homes and numbers
 

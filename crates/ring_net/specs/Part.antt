@@ -1,5 +1,5 @@
 -- The part of a graph that a ring circuit computes.
-use Rattle.std.specs.Prelude.{◌≡◌, ◌==◌, ℕ, ◌^◌, ◌<◌, ◌≤◌, List, [], ◌∷◌, ◌++◌, Option, Some, None, get_or, take, length, slice_get, unwrap_or}
+use Rattle.std.specs.Prelude.{◌≡◌, ◌==◌, ℕ, ◌<◌, ◌≤◌, List, [], ◌∷◌, ◌++◌, Option, Some, None, get_or, take, length, slice_get, unwrap_or}
 use Rattle.std.specs.List.{All, Contains, position}
 use Rattle.hy_bits.specs.declared.op.Op.{Op}
 use Rattle.hy_bits.specs.declared.op.Op.TheVariants.{Add, Sub, Mul, Neg, Trunc}

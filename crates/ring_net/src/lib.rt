@@ -7,8 +7,10 @@
 //! - `RingNet::new`, `RingNet::ins`, `RingNet::gates` and `RingNet::outs` make a circuit of its parts and tell them
 //!   (`src/ring.rt`; read `specs/Ring.antt`).
 //! - `RingNet::value` gives the word of every variable (`src/ring.rt`; read `specs/Ring.antt`).
-//! - `RingNet::products` and `RingNet::depths` count products of two variables: those of a width, and the most on a path to each variable,
-//!   itself counted (`src/ring.rt`; read `specs/Ring.antt`).
+//! - `RingNet::products` counts the products of two variables of a width, and `RingNet::depths` the most on a path to each variable, itself
+//!   counted, in one pass (`src/ring.rt`; read `specs/Ring.antt`).
+//! - `RingNet::has_depths` says of every circuit that its depths are the most products on paths, and the only list that follows the
+//!   recursion of that one pass (`src/ring.rt`; read `specs/Paths.antt`).
 #![tactic(auto)]
 
 mod part;

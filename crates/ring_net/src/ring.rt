@@ -1,7 +1,8 @@
 //! Ring circuits.
-ghost use Rattle.std.specs.Prelude.{◌≡◌, ◌<◌, ◌≤◌, ◌+◌, ◌^◌, ◌++◌, length, map, IfOk};
+ghost use Rattle.std.specs.Prelude.{◌≡◌, ◌<◌, ◌≤◌, ◌+◌, ◌^◌, ◌++◌, ℕ, List, length, map, IfOk};
 ghost use Rattle.std.specs.List.{All};
 ghost use Rattle.hy_bits.specs.Op.{op_value, IsTakenBy};
+ghost use Rattle.ring_net.specs.Paths.{AreGreatest, AreStepwise};
 ghost use Rattle.ring_net.specs.Ring.{AreWordsOf, IsRing, arg_value, argument, depth_at, depths_of, first_width, gate_depth, is_variable, multiplies, product_count, values, width_of};
 
 use hy_bits::{Memory, Op, Width};
@@ -196,6 +197,16 @@ impl RingNet {
             depths.push(depth)?;
         }
         Ok(depths)
+    }
+
+    /// Of every circuit: the depth of each variable is the most products of two variables on a path to it, itself counted, and the
+    /// depths are the only list in which each gate has what its arguments' depths give it.
+    pub fn has_depths(&self)
+        ensures paths { AreGreatest self.now (depths_of self.now) }
+        ensures stepwise { AreStepwise self.now (depths_of self.now) }
+        ensures one { (depths : List ℕ) → AreStepwise self.now depths → depths ≡ depths_of self.now }
+    {
+        let _ = &self.gates;
     }
 
     /// How many gates are products of two variables at the width.
