@@ -2,7 +2,7 @@ use Rattle.std.proofs.Common.{◌&&◌, ◌∙◌, arith}
 use Rattle.std.proofs.lemmas.Result.{err_from_is_err_and}
 use Rattle.hy_bits.specs.Bits.{xor}
 use Rattle.gate_net.specs.Meaning.{value}
-use Rattle.gate_net.proofs.GrowthLaws.{Grows-value, Grows-level, Grows-trans, Grows-then, Grows-weaken, StopsWithin-after}
+use Rattle.gate_net.proofs.GrowthLaws.{Grows-value, Grows-level, Grows-trans, Grows-then, Grows-weaken, StopsWithin-after, Grows-refl}
 use Rattle.gate_net.proofs.ListLaws.{equal_two}
 use Rattle.adder_blocks.proofs.BitSteps.{sum-order}
 use Rattle.adder_blocks.proofs.adder.full_adder.Goals as goal
@@ -92,3 +92,18 @@ returns-clause-carry_level c = λ d first second third.
       Grows-level one c.args.b c.requires.second,
       Grows-level one c.args.carry c.requires.third,
     )
+
+pub returns-in_err-first-clause-stops : goal.returns-in_err-first-clause-stops
+returns-in_err-first-clause-stops c =
+    let p = err_from_is_err_and c.from_residual.result c.from_residual.ensures.1 in
+    rw (p.1, p.2) (StopsWithin-after c.xor.new.self 1 5 _ (Grows-refl c.args.net.now) c.in_err-first.ensures.stops (omega arith))
+
+pub returns-in_err-second-clause-stops : goal.returns-in_err-second-clause-stops
+returns-in_err-second-clause-stops c =
+    let p = err_from_is_err_and c.from_residual-in_err-second.result c.from_residual-in_err-second.ensures.1 in
+    rw (p.1, p.2) (StopsWithin-after c.xor-2.new.self 1 5 _ c.in_ok-first.ensures.grows c.in_err-second.ensures.stops (omega arith))
+
+pub returns-in_err-sum-clause-stops : goal.returns-in_err-sum-clause-stops
+returns-in_err-sum-clause-stops c =
+    let p = err_from_is_err_and c.from_residual-in_err-sum.result c.from_residual-in_err-sum.ensures.1 in
+    rw (p.1, p.2) (StopsWithin-after c.xor-3.new.self 1 5 _ (Grows-trans c.in_ok-first.ensures.grows c.in_ok-second.ensures.grows) c.in_err-sum.ensures.stops (omega arith))

@@ -1,7 +1,7 @@
 use Rattle.std.proofs.Common.{◌&&◌, ◌∙◌, arith}
 use Rattle.std.proofs.lemmas.Result.{err_from_is_err_and}
 use Rattle.hy_bits.specs.Bits.{xor}
-use Rattle.gate_net.proofs.GrowthLaws.{Grows-value, Grows-level, Grows-trans, Grows-then, Grows-weaken, StopsWithin-after}
+use Rattle.gate_net.proofs.GrowthLaws.{Grows-value, Grows-level, Grows-trans, Grows-then, Grows-weaken, StopsWithin-after, Grows-refl}
 use Rattle.gate_net.proofs.ListLaws.{equal_two}
 use Rattle.adder_blocks.proofs.adder.majority.Goals as goal
 
@@ -44,3 +44,18 @@ returns-clause-level c = λ d first second third.
     let two = Grows-trans one c.in_ok-second.ensures.grows in
     let three = Grows-trans two c.in_ok-both.ensures.grows in
     omega (arith, c.in_ok-next.ensures.level, c.in_ok-both.ensures.level, c.in_ok-second.ensures.level, c.in_ok-first.ensures.level, Grows-level three c.args.carry c.requires.third, Grows-level c.in_ok-second.ensures.grows c.in_ok-first.first c.in_ok-first.ensures.stands, Grows-level one c.args.b c.requires.second, Grows-level one c.args.carry c.requires.third)
+
+pub returns-in_err-first-clause-stops : goal.returns-in_err-first-clause-stops
+returns-in_err-first-clause-stops c =
+    let p = err_from_is_err_and c.from_residual.result c.from_residual.ensures.1 in
+    rw (p.1, p.2) (StopsWithin-after c.xor.new.self 1 4 _ (Grows-refl c.args.net.now) c.in_err-first.ensures.stops (omega arith))
+
+pub returns-in_err-second-clause-stops : goal.returns-in_err-second-clause-stops
+returns-in_err-second-clause-stops c =
+    let p = err_from_is_err_and c.from_residual-in_err-second.result c.from_residual-in_err-second.ensures.1 in
+    rw (p.1, p.2) (StopsWithin-after c.xor-2.new.self 1 4 _ c.in_ok-first.ensures.grows c.in_err-second.ensures.stops (omega arith))
+
+pub returns-in_err-both-clause-stops : goal.returns-in_err-both-clause-stops
+returns-in_err-both-clause-stops c =
+    let p = err_from_is_err_and c.from_residual-in_err-both.result c.from_residual-in_err-both.ensures.1 in
+    rw (p.1, p.2) (StopsWithin-after c.and.new.self 1 4 _ (Grows-trans c.in_ok-first.ensures.grows c.in_ok-second.ensures.grows) c.in_err-both.ensures.stops (omega arith))

@@ -1,8 +1,9 @@
+use Rattle.std.proofs.lemmas.Result.{err_from_is_err_and}
 use Rattle.std.proofs.Common.{◌<◌, Bool, false, not, List, length, get_or, sym, ap, ◌∙◌, arith}
 use Rattle.std.proofs.lemmas.List.{length-map}
 use Rattle.hy_bits.specs.Bits.{xor}
 use Rattle.gate_net.specs.Meaning.{value}
-use Rattle.gate_net.proofs.GrowthLaws.{Grows-value, Grows-level}
+use Rattle.gate_net.proofs.GrowthLaws.{Grows-value, Grows-level, Grows-then, Grows-weaken, StopsWithin-after}
 use Rattle.gate_net.specs.Spelled.{values}
 use Rattle.gate_net.proofs.ListLaws.{Progress-push, AllWithin-push, equal_two, get_or-values}
 use Rattle.adder_blocks.proofs.BitSteps.{bitwise-more}
@@ -39,3 +40,17 @@ loop-place-preserved c =
             high c.loop-place.place (record { code = 0 }) at_b,
           )),
     )
+
+pub returns-in_err-differ-clause-grows : goal.returns-in_err-differ-clause-grows
+returns-in_err-differ-clause-grows c = Grows-then c.loop-place.invariant.0.grows c.in_err-differ.ensures.grows (omega arith) (omega arith)
+
+pub returns-in_err-differ-clause-stops : goal.returns-in_err-differ-clause-stops
+returns-in_err-differ-clause-stops c =
+    let p = err_from_is_err_and c.from_residual.result c.from_residual.ensures.1 in
+    rw (p.1, p.2) (StopsWithin-after c.xor.new.self 1 (length c.args.a.now) _ c.loop-place.invariant.0.grows c.in_err-differ.ensures.stops (omega arith))
+
+pub returns-in_err-push-clause-grows : goal.returns-in_err-push-clause-grows
+returns-in_err-push-clause-grows c = Grows-then c.loop-place.invariant.0.grows c.in_ok-differ.ensures.grows (omega arith) (omega arith)
+
+pub returns-clause-grows : goal.returns-clause-grows
+returns-clause-grows c = Grows-weaken c.loop-place.invariant.0.grows (omega arith) (omega arith)

@@ -1,4 +1,4 @@
-use Rattle.std.proofs.Common.{◌+◌, ◌<◌, ◌≤◌, length, ap, ◌∙◌, arith, rules}
+use Rattle.std.proofs.Common.{◌+◌, ◌<◌, length, ap, ◌∙◌, arith, rules}
 use Rattle.std.specs.List.{All}
 use Rattle.gate_net.proofs.GrowthLaws.{Grows-trans, Grows-then}
 use Rattle.adder_blocks.specs.Cells.{CellStands, CellWithin, carried, carry_after}

@@ -1,5 +1,6 @@
-use Rattle.std.proofs.Common.{◌+◌, Bool, map, List, [], ◌∷◌, ◌++◌, get_or, take, sym, ap, ◌∙◌, arith}
-use Rattle.gate_net.proofs.GrowthLaws.{Grows-then}
+use Rattle.std.proofs.lemmas.Result.{err_from_is_err_and}
+use Rattle.std.proofs.Common.{◌+◌, Bool, map, List, [], ◌∷◌, ◌++◌, get_or, take, sym, ap, ◌∙◌, arith, ◌*◌, length}
+use Rattle.gate_net.proofs.GrowthLaws.{Grows-then, Grows-weaken, StopsWithin-after}
 use Rattle.gate_net.proofs.ListLaws.{equal_push}
 use Rattle.std.proofs.lemmas.List.{map_more, map_push}
 use Rattle.std.proofs.lemmas.List.Elements.{All-push}
@@ -31,3 +32,17 @@ loop-cell-preserved c =
           (All-CellWithin-Grows q (d + 1) c.loop-cell.out.items c.loop-cell.invariant.1 (c.loop-cell.invariant.3 d all low))
           (c.in_ok-both.ensures.level d (CellWithin-Grows p d x stands (all c.loop-cell.cell-index (record { generate = record { code = 0 }; propagate = record { code = 0 } }) c.loop-cell-test.true)) (CellWithin-Grows p d c.args.low c.requires.second low))),
     )
+
+pub returns-in_err-both-clause-grows : goal.returns-in_err-both-clause-grows
+returns-in_err-both-clause-grows c = Grows-then c.loop-cell.invariant.0 c.in_err-both.ensures.grows (omega arith) (omega arith)
+
+pub returns-in_err-both-clause-stops : goal.returns-in_err-both-clause-stops
+returns-in_err-both-clause-stops c =
+    let p = err_from_is_err_and c.from_residual.result c.from_residual.ensures.1 in
+    rw (p.1, p.2) (StopsWithin-after c.compose.new.net 3 (3 * length c.args.cells.now) _ c.loop-cell.invariant.0 c.in_err-both.ensures.stops (omega arith))
+
+pub returns-in_err-push-clause-grows : goal.returns-in_err-push-clause-grows
+returns-in_err-push-clause-grows c = Grows-then c.loop-cell.invariant.0 c.in_ok-both.ensures.grows (omega arith) (omega arith)
+
+pub returns-clause-grows : goal.returns-clause-grows
+returns-clause-grows c = Grows-weaken c.loop-cell.invariant.0 (omega arith) (omega arith)

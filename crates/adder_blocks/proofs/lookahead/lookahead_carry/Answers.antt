@@ -1,9 +1,7 @@
-use Rattle.std.proofs.Common.{◌≡◌, Bool, false, length, sym, ap, ◌∙◌, arith}
+use Rattle.std.proofs.Common.{◌≡◌, false, length, sym, ap, ◌∙◌, arith}
 use Rattle.std.proofs.lemmas.List.{length-map}
 use Rattle.gate_net.specs.Meaning.{value}
 use Rattle.gate_net.specs.Spelled.{values}
-use Rattle.adder_blocks.specs.declared.lookahead.Cell.{Cell}
-use Rattle.adder_blocks.specs.Cells.{carries}
 use Rattle.adder_blocks.proofs.CellLaws.{carry_after-out, xor-no_carry}
 use Rattle.adder_blocks.proofs.lookahead.lookahead_carry.Goals as goal
 

@@ -1,12 +1,12 @@
 use Rattle.hy_bits.specs.Sizes.{adder_size}
-use Rattle.std.proofs.Common.{◌≡◌, ◌+◌, ◌*◌, ◌-◌, ◌≤◌, Bool, false, map, suc, List, [], ◌∷◌, length, take, sym, ap, ◌∙◌, arith}
+use Rattle.std.proofs.Common.{◌≡◌, ◌+◌, ◌*◌, ◌-◌, ◌≤◌, Bool, false, map, suc, List, ◌∷◌, length, take, sym, ap, ◌∙◌, arith}
 use Rattle.std.proofs.lemmas.Result.{err_from_is_err_and}
 use Rattle.std.proofs.lemmas.List.{length-map, length-take-le, take-map}
 use Rattle.hy_bits.specs.Bits.{bitwise_three, sum_bit}
 use Rattle.gate_net.specs.declared.literal.Lit.{Lit}
 use Rattle.gate_net.specs.Circuit.{Stands}
 use Rattle.gate_net.specs.Meaning.{value, level}
-use Rattle.gate_net.specs.Spelled.{values, AllStand, AllWithin}
+use Rattle.gate_net.specs.Spelled.{values, AllWithin}
 use Rattle.gate_net.proofs.GrowthLaws.{Grows-value, Grows-level, Grows-stands, Grows-trans, Grows-then, StopsWithin-after}
 use Rattle.gate_net.proofs.ListLaws.{All-cons, AllWithin-Grows, values-Grows, AllStand-Grows}
 use Rattle.adder_blocks.specs.declared.lookahead.Cell.{Cell}

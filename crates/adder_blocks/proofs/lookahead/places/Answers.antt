@@ -1,8 +1,9 @@
-use Rattle.std.proofs.Common.{◌<◌, Bool, false, ◌&&◌, List, [], ◌∷◌, ◌++◌, length, get_or, take, refl, sym, ap, ◌∙◌, arith}
+use Rattle.std.proofs.lemmas.Result.{err_from_is_err_and}
+use Rattle.std.proofs.Common.{◌<◌, Bool, false, ◌&&◌, List, [], ◌∷◌, ◌++◌, length, get_or, take, refl, sym, ap, ◌∙◌, arith, ◌*◌}
 use Rattle.std.proofs.lemmas.List.{length-map}
 use Rattle.hy_bits.specs.Bits.{xor, bitwise, next_carry}
 use Rattle.gate_net.specs.Meaning.{value}
-use Rattle.gate_net.proofs.GrowthLaws.{Grows-value, Grows-level, Grows-stands, Grows-trans, Grows-then}
+use Rattle.gate_net.proofs.GrowthLaws.{Grows-value, Grows-level, Grows-stands, Grows-trans, Grows-then, Grows-weaken, StopsWithin-after}
 use Rattle.gate_net.specs.Spelled.{values}
 use Rattle.gate_net.proofs.ListLaws.{equal_push, equal_two, get_or-values}
 use Rattle.adder_blocks.proofs.BitSteps.{bitwise-more}
@@ -52,3 +53,22 @@ loop-place-preserved c =
 
 pub returns-in_err-push-clause-grows : goal.returns-in_err-push-clause-grows
 returns-in_err-push-clause-grows c = Grows-then (Grows-trans c.loop-place.invariant.0 c.in_ok-propagate.ensures.grows) c.in_ok-generate.ensures.grows (omega arith) (omega arith)
+
+pub returns-in_err-propagate-clause-grows : goal.returns-in_err-propagate-clause-grows
+returns-in_err-propagate-clause-grows c = Grows-then c.loop-place.invariant.0 c.in_err-propagate.ensures.grows (omega arith) (omega arith)
+
+pub returns-in_err-propagate-clause-stops : goal.returns-in_err-propagate-clause-stops
+returns-in_err-propagate-clause-stops c =
+    let p = err_from_is_err_and c.from_residual.result c.from_residual.ensures.1 in
+    rw (p.1, p.2) (StopsWithin-after c.xor.new.self 1 (2 * length c.args.a.now) _ c.loop-place.invariant.0 c.in_err-propagate.ensures.stops (omega arith))
+
+pub returns-in_err-generate-clause-grows : goal.returns-in_err-generate-clause-grows
+returns-in_err-generate-clause-grows c = Grows-then (Grows-trans c.loop-place.invariant.0 c.in_ok-propagate.ensures.grows) c.in_err-generate.ensures.grows (omega arith) (omega arith)
+
+pub returns-in_err-generate-clause-stops : goal.returns-in_err-generate-clause-stops
+returns-in_err-generate-clause-stops c =
+    let p = err_from_is_err_and c.from_residual-in_err-generate.result c.from_residual-in_err-generate.ensures.1 in
+    rw (p.1, p.2) (StopsWithin-after c.and.new.self 1 (2 * length c.args.a.now) _ (Grows-trans c.loop-place.invariant.0 c.in_ok-propagate.ensures.grows) c.in_err-generate.ensures.stops (omega arith))
+
+pub returns-clause-grows : goal.returns-clause-grows
+returns-clause-grows c = Grows-weaken c.loop-place.invariant.0 (omega arith) (omega arith)

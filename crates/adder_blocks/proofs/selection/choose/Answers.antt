@@ -1,8 +1,9 @@
-use Rattle.std.proofs.Common.{◌+◌, ◌<◌, Bool, false, List, length, get_or, take, ap, ◌∙◌, arith}
+use Rattle.std.proofs.lemmas.Result.{err_from_is_err_and}
+use Rattle.std.proofs.Common.{◌+◌, ◌<◌, Bool, false, List, length, get_or, take, ap, ◌∙◌, arith, ◌*◌}
 use Rattle.std.proofs.lemmas.List.{take_all, length-map, length_push}
 use Rattle.hy_bits.specs.Bits.{bitwise}
 use Rattle.gate_net.specs.Meaning.{value}
-use Rattle.gate_net.proofs.GrowthLaws.{Grows-value, Grows-level}
+use Rattle.gate_net.proofs.GrowthLaws.{Grows-value, Grows-level, Grows-then, Grows-weaken, StopsWithin-after}
 use Rattle.gate_net.specs.Spelled.{values}
 use Rattle.adder_blocks.specs.Steps.{chosen}
 use Rattle.gate_net.proofs.ListLaws.{Progress-push, AllWithin-push, equal_two, equal_three, equal_push, get_or-values}
@@ -42,3 +43,17 @@ returns-clause-value c = λ bits.
     ∙ ap (λ (xs : List Bool). bitwise (chosen (value n bits c.args.c)) xs (take c.loop-place.place (values n bits c.args.b.now))) (take_all c.loop-place.place (values n bits c.args.a.now) (omega (arith, length-map c.args.a.now (value n bits), c.loop-place-test.false)))
     ∙ ap (λ (ys : List Bool). bitwise (chosen (value n bits c.args.c)) (values n bits c.args.a.now) ys) (take_all c.loop-place.place (values n bits c.args.b.now) (omega (arith, length-map c.args.b.now (value n bits), c.requires.same_length, c.loop-place-test.false)))
     ∙ select-bits (value n bits c.args.c) (values n bits c.args.a.now) (values n bits c.args.b.now) (omega (arith, length-map c.args.a.now (value n bits), length-map c.args.b.now (value n bits), c.requires.same_length))
+
+pub returns-in_err-bit-clause-grows : goal.returns-in_err-bit-clause-grows
+returns-in_err-bit-clause-grows c = Grows-then c.loop-place.invariant.0.grows c.in_err-bit.ensures.grows (omega arith) (omega arith)
+
+pub returns-in_err-bit-clause-stops : goal.returns-in_err-bit-clause-stops
+returns-in_err-bit-clause-stops c =
+    let p = err_from_is_err_and c.from_residual.result c.from_residual.ensures.1 in
+    rw (p.1, p.2) (StopsWithin-after c.choose_bit.new.net 3 (3 * length c.args.a.now) _ c.loop-place.invariant.0.grows c.in_err-bit.ensures.stops (omega arith))
+
+pub returns-in_err-push-clause-grows : goal.returns-in_err-push-clause-grows
+returns-in_err-push-clause-grows c = Grows-then c.loop-place.invariant.0.grows c.in_ok-bit.ensures.grows (omega arith) (omega arith)
+
+pub returns-clause-grows : goal.returns-clause-grows
+returns-clause-grows c = Grows-weaken c.loop-place.invariant.0.grows (omega arith) (omega arith)

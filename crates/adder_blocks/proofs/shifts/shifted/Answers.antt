@@ -8,7 +8,7 @@ use Rattle.std.proofs.lemmas.Result.{err_from_is_err_and}
 use Rattle.hy_bits.specs.Bits.{number}
 use Rattle.gate_net.specs.Circuit.{Stands}
 use Rattle.gate_net.specs.Meaning.{value}
-use Rattle.gate_net.proofs.GrowthLaws.{Grows-value, Grows-trans, Grows-then, StopsWithin-after}
+use Rattle.gate_net.proofs.GrowthLaws.{Grows-value, Grows-trans, Grows-then, StopsWithin-after, Grows-refl, Grows-weaken}
 use Rattle.gate_net.specs.Spelled.{values, spelled, AllStand}
 use Rattle.adder_blocks.specs.Shifts.{moved_by}
 use Rattle.gate_net.proofs.ListLaws.{values-Grows, length-from_values}
@@ -127,3 +127,29 @@ returns-clause-value c = λ bits.
     ∙ ap (λ (b : Bool). if b then values c.any_of.new.net bits c.deref.result.now else values c.any_of.new.net bits c.in_ok-near.near.items) test
     ∙ selected c.args.up (value n bits c.args.fill) (spelled n bits c.split_at.result.0.now) (spelled n bits c.split_at.result.1.now) c.stages.result (spelled n bits c.args.count.now) (values n bits c.args.a.now) _ _ far stayed
     (spelled-parts n bits c.args.count.now c.split_at.result.0.now c.split_at.result.1.now c.stages.result front back low) wide
+
+pub returns-in_err-near-clause-gates : goal.returns-in_err-near-clause-gates
+returns-in_err-near-clause-gates c = λ k small.
+    let low : length c.split_at.result.0.now ≡ c.stages.result = search rules in
+    let high : length c.split_at.result.0.now + length c.split_at.result.1.now ≡ length c.args.count.now = search rules in
+    let within : length c.split_at.result.0.now ≤ k = omega (arith, low, few (length c.args.a.now) c.stages.result k c.stages.ensures.short small) in
+    let fits = room (length c.args.a.now) (length c.split_at.result.0.now) k (length c.split_at.result.1.now) (length c.args.count.now) within high in
+    Grows-weaken c.in_err-near.ensures.grows (omega (arith, fits.0)) (omega (arith, fits.1))
+
+pub returns-in_err-near-clause-stops : goal.returns-in_err-near-clause-stops
+returns-in_err-near-clause-stops c =
+    let p = err_from_is_err_and c.from_residual.result c.from_residual.ensures.1 in
+    rw (p.1, p.2) (λ k small.
+    let low : length c.split_at.result.0.now ≡ c.stages.result = search rules in
+    let high : length c.split_at.result.0.now + length c.split_at.result.1.now ≡ length c.args.count.now = search rules in
+    let within : length c.split_at.result.0.now ≤ k = omega (arith, low, few (length c.args.a.now) c.stages.result k c.stages.ensures.short small) in
+    let fits = room (length c.args.a.now) (length c.split_at.result.0.now) k (length c.split_at.result.1.now) (length c.args.count.now) within high in
+    StopsWithin-after c.moved_by_count.new.net (3 * length c.args.a.now * length c.split_at.result.0.now) (adder_size (length c.args.a.now) k + 4 * length c.args.count.now) _ (Grows-refl c.args.net.now) c.in_err-near.ensures.stops (omega (arith, fits.0)))
+
+pub returns-then-is_empty-clause-gates : goal.returns-then-is_empty-clause-gates
+returns-then-is_empty-clause-gates c = λ k small.
+    let low : length c.split_at.result.0.now ≡ c.stages.result = search rules in
+    let high : length c.split_at.result.0.now + length c.split_at.result.1.now ≡ length c.args.count.now = search rules in
+    let within : length c.split_at.result.0.now ≤ k = omega (arith, low, few (length c.args.a.now) c.stages.result k c.stages.ensures.short small) in
+    let fits = room (length c.args.a.now) (length c.split_at.result.0.now) k (length c.split_at.result.1.now) (length c.args.count.now) within high in
+    Grows-weaken c.in_ok-near.ensures.grows (omega (arith, fits.0)) (omega (arith, fits.1))

@@ -1,8 +1,9 @@
-use Rattle.std.proofs.Common.{◌<◌, Bool, ◌&&◌, false, List, length, get_or, sym, ◌∙◌, arith}
+use Rattle.std.proofs.lemmas.Result.{err_from_is_err_and}
+use Rattle.std.proofs.Common.{◌<◌, Bool, ◌&&◌, false, List, length, get_or, sym, ◌∙◌, arith, ◌*◌}
 use Rattle.std.proofs.lemmas.List.{length-map, length_push}
 use Rattle.hy_bits.specs.Bits.{xor}
 use Rattle.gate_net.specs.Meaning.{value}
-use Rattle.gate_net.proofs.GrowthLaws.{Grows-value, Grows-trans, Grows-then}
+use Rattle.gate_net.proofs.GrowthLaws.{Grows-value, Grows-trans, Grows-then, Grows-weaken, StopsWithin-after}
 use Rattle.gate_net.specs.Spelled.{values}
 use Rattle.gate_net.proofs.ListLaws.{Progress-push, equal_two, get_or-values}
 use Rattle.adder_blocks.proofs.BitSteps.{bitwise-more}
@@ -33,3 +34,22 @@ loop-place-preserved c =
 
 pub returns-in_err-push-clause-grows : goal.returns-in_err-push-clause-grows
 returns-in_err-push-clause-grows c = Grows-then (Grows-trans c.loop-place.invariant.0.grows c.in_ok-change.ensures.grows) c.in_ok-bit.ensures.grows (omega arith) (omega arith)
+
+pub returns-in_err-change-clause-grows : goal.returns-in_err-change-clause-grows
+returns-in_err-change-clause-grows c = Grows-then c.loop-place.invariant.0.grows c.in_err-change.ensures.grows (omega arith) (omega arith)
+
+pub returns-in_err-change-clause-stops : goal.returns-in_err-change-clause-stops
+returns-in_err-change-clause-stops c =
+    let p = err_from_is_err_and c.from_residual.result c.from_residual.ensures.1 in
+    rw (p.1, p.2) (StopsWithin-after c.and.new.self 1 (2 * length c.args.word.now) _ c.loop-place.invariant.0.grows c.in_err-change.ensures.stops (omega arith))
+
+pub returns-in_err-bit-clause-grows : goal.returns-in_err-bit-clause-grows
+returns-in_err-bit-clause-grows c = Grows-then (Grows-trans c.loop-place.invariant.0.grows c.in_ok-change.ensures.grows) c.in_err-bit.ensures.grows (omega arith) (omega arith)
+
+pub returns-in_err-bit-clause-stops : goal.returns-in_err-bit-clause-stops
+returns-in_err-bit-clause-stops c =
+    let p = err_from_is_err_and c.from_residual-in_err-bit.result c.from_residual-in_err-bit.ensures.1 in
+    rw (p.1, p.2) (StopsWithin-after c.xor.new.self 1 (2 * length c.args.word.now) _ (Grows-trans c.loop-place.invariant.0.grows c.in_ok-change.ensures.grows) c.in_err-bit.ensures.stops (omega arith))
+
+pub returns-clause-grows : goal.returns-clause-grows
+returns-clause-grows c = Grows-weaken c.loop-place.invariant.0.grows (omega arith) (omega arith)

@@ -1,10 +1,11 @@
-use Rattle.std.proofs.Common.{◌≡◌, ◌<◌, Bool, true, false, not, List, length, get_or, take, map, refl, sym, ap, ◌∙◌, arith}
+use Rattle.std.proofs.lemmas.Result.{err_from_is_err_and}
+use Rattle.std.proofs.Common.{◌≡◌, ◌<◌, Bool, true, false, not, List, length, get_or, take, map, refl, sym, ap, ◌∙◌, arith, ◌*◌}
 use Rattle.std.proofs.lemmas.List.{length-map, length_push, get_or-map, take_all}
 use Rattle.hy_bits.specs.Bits.{xor, next_carry, carry_out}
 use Rattle.hy_bits.proofs.BitLaws.{carry_out-difference}
 use Rattle.gate_net.specs.Meaning.{value}
 use Rattle.gate_net.proofs.MeaningLaws.{value-true}
-use Rattle.gate_net.proofs.GrowthLaws.{Grows-value}
+use Rattle.gate_net.proofs.GrowthLaws.{Grows-value, Grows-then, Grows-weaken, StopsWithin-after}
 use Rattle.gate_net.specs.Spelled.{values}
 use Rattle.gate_net.proofs.ListLaws.{Progress-push, Progress-start, Stands-constant, equal_two, equal_three, get_or-values}
 use Rattle.adder_blocks.proofs.BitSteps.{carry_out-more}
@@ -61,3 +62,17 @@ returns-clause-fits c = λ bits.
     ∙ ap (λ (us : List Bool). carry_out true us (take c.loop-place.place ns)) (take_all c.loop-place.place xs (omega (arith, long_x, c.loop-place-test.false)))
     ∙ ap (λ (us : List Bool). carry_out true xs us) (take_all c.loop-place.place ns (omega (arith, long_n, c.requires.same_length, c.loop-place-test.false)))
     ∙ carry_out-difference xs (values n bits c.args.y.now) (long_x ∙ c.requires.same_length ∙ sym long_y)
+
+pub returns-in_err-change-clause-grows : goal.returns-in_err-change-clause-grows
+returns-in_err-change-clause-grows c = Grows-then c.loop-place.invariant.0.grows c.in_err-change.ensures.grows (omega arith) (omega arith)
+
+pub returns-in_err-change-clause-stops : goal.returns-in_err-change-clause-stops
+returns-in_err-change-clause-stops c =
+    let p = err_from_is_err_and c.from_residual.result c.from_residual.ensures.1 in
+    rw (p.1, p.2) (StopsWithin-after c.difference_place.new.net 4 (4 * length c.args.x.now) _ c.loop-place.invariant.0.grows c.in_err-change.ensures.stops (omega arith))
+
+pub returns-in_err-push-clause-grows : goal.returns-in_err-push-clause-grows
+returns-in_err-push-clause-grows c = Grows-then c.loop-place.invariant.0.grows c.in_ok-change.ensures.grows (omega arith) (omega arith)
+
+pub returns-clause-grows : goal.returns-clause-grows
+returns-clause-grows c = Grows-weaken c.loop-place.invariant.0.grows (omega arith) (omega arith)

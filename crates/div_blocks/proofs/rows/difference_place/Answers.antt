@@ -2,7 +2,7 @@ use Rattle.std.proofs.Common.{◌&&◌, not, ◌∙◌, ap, arith}
 use Rattle.std.proofs.lemmas.Result.{err_from_is_err_and}
 use Rattle.hy_bits.specs.Bits.{xor}
 use Rattle.gate_net.proofs.MeaningLaws.{value-complement}
-use Rattle.gate_net.proofs.GrowthLaws.{Grows-value, Grows-trans, Grows-then, Grows-weaken, StopsWithin-after}
+use Rattle.gate_net.proofs.GrowthLaws.{Grows-value, Grows-trans, Grows-then, Grows-weaken, StopsWithin-after, Grows-refl}
 use Rattle.gate_net.proofs.ListLaws.{equal_two}
 use Rattle.div_blocks.proofs.rows.difference_place.Goals as goal
 
@@ -50,3 +50,18 @@ returns-clause-carry c = λ bits.
     ∙ equal_two xor
     (value-complement c.xor.new.self bits c.args.y ∙ ap not (Grows-value one bits c.args.y c.requires.second))
     (Grows-value one bits c.args.carry c.requires.third)))
+
+pub returns-in_err-differ-clause-stops : goal.returns-in_err-differ-clause-stops
+returns-in_err-differ-clause-stops c =
+    let p = err_from_is_err_and c.from_residual.result c.from_residual.ensures.1 in
+    rw (p.1, p.2) (StopsWithin-after c.xor.new.self 1 4 _ (Grows-refl c.args.net.now) c.in_err-differ.ensures.stops (omega arith))
+
+pub returns-in_err-change-clause-stops : goal.returns-in_err-change-clause-stops
+returns-in_err-change-clause-stops c =
+    let p = err_from_is_err_and c.from_residual-in_err-change.result c.from_residual-in_err-change.ensures.1 in
+    rw (p.1, p.2) (StopsWithin-after c.xor-2.new.self 1 4 _ c.in_ok-differ.ensures.grows c.in_err-change.ensures.stops (omega arith))
+
+pub returns-in_err-both-clause-stops : goal.returns-in_err-both-clause-stops
+returns-in_err-both-clause-stops c =
+    let p = err_from_is_err_and c.from_residual-in_err-both.result c.from_residual-in_err-both.ensures.1 in
+    rw (p.1, p.2) (StopsWithin-after c.and.new.self 1 4 _ (Grows-trans c.in_ok-differ.ensures.grows c.in_ok-change.ensures.grows) c.in_err-both.ensures.stops (omega arith))

@@ -1,3 +1,4 @@
+use Rattle.std.proofs.lemmas.Result.{err_from_is_err_and}
 use Rattle.std.proofs.Common.{◌≡◌, ℕ, ◌+◌, ◌*◌, ◌-◌, ◌<◌, ◌^◌, Bool, false, ◌&&◌, List, [], ◌∷◌, ◌++◌, length, get_or, take, refl, sym, ap, ◌∙◌, arith}
 use Rattle.std.proofs.lemmas.List.{take_all, length-map, length_push}
 use Rattle.hy_bits.specs.Bits.{number, xor}
@@ -5,7 +6,7 @@ use Rattle.gate_net.specs.declared.literal.Lit.{Lit}
 use Rattle.gate_net.specs.Circuit.{Circuit, Stands}
 use Rattle.gate_net.specs.Meaning.{value}
 use Rattle.gate_net.specs.Growth.{Grows}
-use Rattle.gate_net.proofs.GrowthLaws.{Grows-value, Grows-trans, Grows-then}
+use Rattle.gate_net.proofs.GrowthLaws.{Grows-value, Grows-trans, Grows-then, StopsWithin-after}
 use Rattle.gate_net.specs.Spelled.{values, AllStand}
 use Rattle.gate_net.proofs.ListLaws.{Progress, Progress-push, Progress-start, equal_two, bit-at}
 use Rattle.div_blocks.specs.Division.{signed_by}
@@ -84,3 +85,30 @@ returns-clause-value c = λ bits.
 
 pub returns-clause-grows : goal.returns-clause-grows
 returns-clause-grows c = Grows-then (Grows-trans c.loop-place.invariant.0.grows c.in_ok-turned.ensures.grows) c.in_ok-bit-2.ensures.grows (omega (arith, c.requires.some)) (omega (arith, c.requires.some))
+
+pub returns-in_err-bit-clause-grows : goal.returns-in_err-bit-clause-grows
+returns-in_err-bit-clause-grows c = Grows-then c.loop-place.invariant.0.grows c.in_err-bit.ensures.grows (omega arith) (omega arith)
+
+pub returns-in_err-bit-clause-stops : goal.returns-in_err-bit-clause-stops
+returns-in_err-bit-clause-stops c =
+    let p = err_from_is_err_and c.from_residual.result c.from_residual.ensures.1 in
+    rw (p.1, p.2) (StopsWithin-after c.sign_place.new.net 3 (3 * length c.args.word.now) _ c.loop-place.invariant.0.grows c.in_err-bit.ensures.stops (omega arith))
+
+pub returns-in_err-push-clause-grows : goal.returns-in_err-push-clause-grows
+returns-in_err-push-clause-grows c = Grows-then c.loop-place.invariant.0.grows c.in_ok-bit.ensures.grows (omega arith) (omega arith)
+
+pub returns-in_err-turned-clause-grows : goal.returns-in_err-turned-clause-grows
+returns-in_err-turned-clause-grows c = Grows-then c.loop-place.invariant.0.grows c.in_err-turned.ensures.grows (omega (arith, c.requires.some)) (omega (arith, c.requires.some))
+
+pub returns-in_err-turned-clause-stops : goal.returns-in_err-turned-clause-stops
+returns-in_err-turned-clause-stops c =
+    let p = err_from_is_err_and c.from_residual-in_err-turned.result c.from_residual-in_err-turned.ensures.1 in
+    rw (p.1, p.2) (StopsWithin-after c.xor.new.self 1 (3 * length c.args.word.now) _ c.loop-place.invariant.0.grows c.in_err-turned.ensures.stops (omega (arith, c.requires.some)))
+
+pub returns-in_err-bit-2-clause-grows : goal.returns-in_err-bit-2-clause-grows
+returns-in_err-bit-2-clause-grows c = Grows-then (Grows-trans c.loop-place.invariant.0.grows c.in_ok-turned.ensures.grows) c.in_err-bit-2.ensures.grows (omega (arith, c.requires.some)) (omega (arith, c.requires.some))
+
+pub returns-in_err-bit-2-clause-stops : goal.returns-in_err-bit-2-clause-stops
+returns-in_err-bit-2-clause-stops c =
+    let p = err_from_is_err_and c.from_residual-in_err-bit-2.result c.from_residual-in_err-bit-2.ensures.1 in
+    rw (p.1, p.2) (StopsWithin-after c.xor-2.new.self 1 (3 * length c.args.word.now) _ (Grows-trans c.loop-place.invariant.0.grows c.in_ok-turned.ensures.grows) c.in_err-bit-2.ensures.stops (omega (arith, c.requires.some)))

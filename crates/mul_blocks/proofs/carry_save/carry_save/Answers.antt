@@ -7,7 +7,7 @@ use Rattle.gate_net.specs.Circuit.{Circuit, Stands}
 use Rattle.gate_net.specs.Meaning.{value, level}
 use Rattle.gate_net.specs.Growth.{Grows}
 use Rattle.gate_net.proofs.MeaningLaws.{value-false, level-constant}
-use Rattle.gate_net.proofs.GrowthLaws.{Grows-refl, Grows-trans, Grows-then, StopsWithin-after}
+use Rattle.gate_net.proofs.GrowthLaws.{Grows-refl, Grows-trans, Grows-then, StopsWithin-after, Grows-weaken}
 use Rattle.gate_net.specs.Spelled.{values, spelled, AllStand}
 use Rattle.gate_net.proofs.ListLaws.{Progress, Progress-push, Progress-start, AllWithin-push, AllWithin-Grows, AllStand-Grows, values-Grows, All-cons, equal_two, equal_three, Stands-constant, bit-at, level-at}
 use Rattle.adder_blocks.proofs.BitSteps.{bitwise_three-more}
@@ -171,3 +171,17 @@ returns-clause-level c = λ d low_x low_y low_z.
 
 pub returns-clause-grows : goal.returns-clause-grows
 returns-clause-grows c = Grows-then (Grows-trans c.loop-place.invariant.0.grows c.in_ok-differ.ensures.grows) c.in_ok-sum-2.ensures.grows (omega (arith, c.requires.some)) (omega (arith, c.requires.some))
+
+pub returns-in_err-carries-clause-grows : goal.returns-in_err-carries-clause-grows
+returns-in_err-carries-clause-grows c = Grows-weaken (Grows-refl c.args.net.now) (omega arith) (omega arith)
+
+pub returns-in_err-sum-clause-grows : goal.returns-in_err-sum-clause-grows
+returns-in_err-sum-clause-grows c = Grows-then c.loop-place.invariant.0.grows c.in_err-sum.ensures.grows (omega arith) (omega arith)
+
+pub returns-in_err-sum-clause-stops : goal.returns-in_err-sum-clause-stops
+returns-in_err-sum-clause-stops c =
+    let p = err_from_is_err_and c.from_residual-in_err-sum.result c.from_residual-in_err-sum.ensures.1 in
+    rw (p.1, p.2) (StopsWithin-after c.full_adder.new.net 5 (5 * length c.args.x.now) _ c.loop-place.invariant.0.grows c.in_err-sum.ensures.stops (omega arith))
+
+pub returns-in_err-differ-clause-grows : goal.returns-in_err-differ-clause-grows
+returns-in_err-differ-clause-grows c = Grows-then c.loop-place.invariant.0.grows c.in_err-differ.ensures.grows (omega (arith, c.requires.some)) (omega (arith, c.requires.some))

@@ -6,7 +6,7 @@ use Rattle.gate_net.specs.declared.literal.Lit.{Lit}
 use Rattle.gate_net.specs.Circuit.{Circuit}
 use Rattle.gate_net.specs.Meaning.{value}
 use Rattle.gate_net.specs.Growth.{Grows}
-use Rattle.gate_net.proofs.GrowthLaws.{Grows-value, Grows-trans, Grows-then, StopsWithin-after}
+use Rattle.gate_net.proofs.GrowthLaws.{Grows-value, Grows-trans, Grows-then, StopsWithin-after, Grows-refl, Grows-weaken}
 use Rattle.gate_net.specs.Spelled.{spelled, AllStand}
 use Rattle.gate_net.proofs.ListLaws.{AllWithin-Grows, values-Grows, level-at}
 use Rattle.mul_blocks.proofs.RowLaws.{two-digits, three-digits, two-rows, three-rows}
@@ -127,3 +127,25 @@ returns-clause-level c = λ d k small low_word low_digits.
     let z = c.in_ok-third.ensures.level d (AllWithin-Grows both d c.args.word.now c.requires.word low_word) (level-at both d c.args.digits.now 2 c.requires.digits low_digits (omega (arith, three))) in
     let out = c.in_ok-out.ensures.level (d + 1) (rw c.deref.ensures.value x) (rw c.deref-2.ensures.value y) (rw c.deref-3.ensures.value z) in
     (λ i e l. omega (arith, out.0 i e l, deep), λ i e l. omega (arith, out.1 i e l, deep))
+
+pub returns-in_err-first-clause-grows : goal.returns-in_err-first-clause-grows
+returns-in_err-first-clause-grows c =
+    let fits = two-gates (length c.args.word.now) (length c.args.digits.now) c.requires.least in
+    Grows-weaken c.in_err-first.ensures.grows (omega (arith, fits)) (omega (arith, fits))
+
+pub returns-in_err-first-clause-stops : goal.returns-in_err-first-clause-stops
+returns-in_err-first-clause-stops c =
+    let fits = two-gates (length c.args.word.now) (length c.args.digits.now) c.requires.least in
+    let p = err_from_is_err_and c.from_residual.result c.from_residual.ensures.1 in
+    rw (p.1, p.2) (StopsWithin-after c.placed_row.new.net (length c.args.word.now) (length c.args.word.now * length c.args.digits.now + 5 * (length c.args.word.now * (length c.args.digits.now - 2))) _ (Grows-refl c.args.net.now) c.in_err-first.ensures.stops (omega (arith, fits)))
+
+pub returns-in_err-second-clause-stops : goal.returns-in_err-second-clause-stops
+returns-in_err-second-clause-stops c =
+    let fits = two-gates (length c.args.word.now) (length c.args.digits.now) c.requires.least in
+    let p = err_from_is_err_and c.from_residual-in_err-second.result c.from_residual-in_err-second.ensures.1 in
+    rw (p.1, p.2) (StopsWithin-after c.placed_row-2.new.net (length c.args.word.now) (length c.args.word.now * length c.args.digits.now + 5 * (length c.args.word.now * (length c.args.digits.now - 2))) _ c.in_ok-first.ensures.grows c.in_err-second.ensures.stops (omega (arith, fits)))
+
+pub returns-then-digits-eq2-clause-grows : goal.returns-then-digits-eq2-clause-grows
+returns-then-digits-eq2-clause-grows c =
+    let fits = two-gates (length c.args.word.now) (length c.args.digits.now) c.requires.least in
+    Grows-then c.in_ok-first.ensures.grows c.in_ok-second.ensures.grows (omega (arith, fits)) (omega (arith, fits))

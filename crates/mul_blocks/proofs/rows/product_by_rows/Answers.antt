@@ -1,8 +1,9 @@
-use Rattle.std.proofs.Common.{◌≡◌, ℕ, zero, suc, ◌+◌, ◌-◌, ◌*◌, ◌%◌, ◌^◌, ◌<◌, ◌≤◌, Bool, false, List, length, get_or, take, drop, sym, ap, ◌∙◌, arith}
+use Rattle.std.proofs.Common.{◌≡◌, ℕ, zero, suc, ◌+◌, ◌-◌, ◌*◌, ◌%◌, ◌^◌, ◌<◌, ◌≤◌, Bool, false, List, length, get_or, take, drop, sym, ap, ◌∙◌, arith, subst}
 use Rattle.std.proofs.lemmas.Result.{err_from_is_err_and}
 use Rattle.std.proofs.lemmas.List.{length-map, length-take-le, drop_more}
 use Rattle.hy_bits.specs.Bits.{bit, number}
 use Rattle.gate_net.specs.Circuit.{Stands}
+use Rattle.gate_net.specs.Growth.{Grows}
 use Rattle.gate_net.specs.Meaning.{value}
 use Rattle.gate_net.proofs.GrowthLaws.{Grows-then, StopsWithin-after}
 use Rattle.gate_net.specs.Spelled.{values, spelled}
@@ -84,3 +85,8 @@ loop-count-preserved c =
           row-more (spelled n bits c.args.a.now) _ _ _ _ _ i _ _ _ known digit word (c.loop-count.invariant.3 bits) size
           (digits-more (values n bits c.args.b.now) (length c.args.b.now) i at (length-map c.args.b.now (value n bits)) (omega (arith, c.requires.same_length)) (omega (arith, c.requires.same_length))),
     )
+
+pub returns-clause-grows : goal.returns-clause-grows
+returns-clause-grows c =
+    let all : c.loop-count.count ≡ length c.args.a.now = omega arith in
+    subst (λ (k : ℕ). Grows c.args.net.now c.loop-count.net (3 * (k * k)) (k * k - k + 1)) all c.loop-count.invariant.0

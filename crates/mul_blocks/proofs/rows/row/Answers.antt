@@ -1,7 +1,8 @@
+use Rattle.std.proofs.lemmas.Result.{err_from_is_err_and}
 use Rattle.std.proofs.Common.{◌+◌, ◌<◌, ◌&&◌, false, length, get_or, sym, ◌∙◌, arith}
 use Rattle.std.proofs.lemmas.List.{length-map, length_push, map_more}
 use Rattle.gate_net.specs.Meaning.{value}
-use Rattle.gate_net.proofs.GrowthLaws.{Grows-value, Grows-level}
+use Rattle.gate_net.proofs.GrowthLaws.{Grows-value, Grows-level, Grows-then, Grows-weaken, StopsWithin-after}
 use Rattle.gate_net.specs.Spelled.{values}
 use Rattle.gate_net.proofs.ListLaws.{Progress-push, AllWithin-push, equal_two, get_or-values}
 use Rattle.mul_blocks.proofs.rows.row.Goals as goal
@@ -33,3 +34,17 @@ loop-x-preserved c =
           )),
       omega (arith, length_push c.loop-x.out.items c.in_ok-both.both),
     )
+
+pub returns-in_err-both-clause-grows : goal.returns-in_err-both-clause-grows
+returns-in_err-both-clause-grows c = Grows-then c.loop-x.invariant.0.grows c.in_err-both.ensures.grows (omega arith) (omega arith)
+
+pub returns-in_err-both-clause-stops : goal.returns-in_err-both-clause-stops
+returns-in_err-both-clause-stops c =
+    let p = err_from_is_err_and c.from_residual.result c.from_residual.ensures.1 in
+    rw (p.1, p.2) (StopsWithin-after c.and.new.self 1 (length c.args.word.now) _ c.loop-x.invariant.0.grows c.in_err-both.ensures.stops (omega arith))
+
+pub returns-in_err-push-clause-grows : goal.returns-in_err-push-clause-grows
+returns-in_err-push-clause-grows c = Grows-then c.loop-x.invariant.0.grows c.in_ok-both.ensures.grows (omega arith) (omega arith)
+
+pub returns-clause-grows : goal.returns-clause-grows
+returns-clause-grows c = Grows-weaken c.loop-x.invariant.0.grows (omega arith) (omega arith)

@@ -12,7 +12,7 @@ use Rattle.gate_net.specs.declared.netlist.GateFault.TheVariants.{GateLimit, Mem
 use Rattle.gate_net.specs.Circuit.{Circuit, Stands}
 use Rattle.gate_net.specs.Meaning.{value}
 use Rattle.gate_net.specs.Growth.{Grows, StopsWithin}
-use Rattle.gate_net.proofs.GrowthLaws.{Grows-length, StopsWithin-after}
+use Rattle.gate_net.proofs.GrowthLaws.{Grows-length, StopsWithin-after, Grows-refl, Grows-then, Grows-weaken}
 use Rattle.gate_net.specs.Spelled.{values, spelled}
 use Rattle.gate_net.proofs.ListLaws.{AllStand-Grows, values-Grows}
 use Rattle.adder_blocks.proofs.TreeLaws.{All-take, within_power}
@@ -76,3 +76,29 @@ returns-clause-value c = λ bits.
     (twice c.sum.new.net bits out c.in_ok-high.high.items vs (spelled n bits c.args.rest.now) k carried long sum
     ∙ ap (λ (u : ℕ). (u + 2 * spelled n bits c.args.rest.now) % 2 ^ (k + 1)) row
     ∙ ap (λ (j : ℕ). (bit (value n bits c.args.digit) * spelled n bits c.args.word.now + 2 * spelled n bits c.args.rest.now) % 2 ^ j) (sym c.requires.shorter))
+
+pub returns-in_err-out-clause-grows : goal.returns-in_err-out-clause-grows
+returns-in_err-out-clause-grows c = Grows-weaken c.in_err-out.ensures.grows (omega (arith, c.requires.shorter, c.requires.some)) (omega (arith, c.requires.shorter, c.requires.some))
+
+pub returns-in_err-out-clause-stops : goal.returns-in_err-out-clause-stops
+returns-in_err-out-clause-stops c =
+    let p = err_from_is_err_and c.from_residual.result c.from_residual.ensures.1 in
+    rw (p.1, p.2) (StopsWithin-after c.row.new.net (length c.args.word.now) (6 * length c.args.rest.now + 2) _ (Grows-refl c.args.net.now) c.in_err-out.ensures.stops (omega (arith, c.requires.shorter)))
+
+pub returns-in_err-high-clause-grows : goal.returns-in_err-high-clause-grows
+returns-in_err-high-clause-grows c =
+    let long : length (take (length c.deref.result.now - 1) (drop 1 c.deref.result.now)) ≡ length c.args.rest.now =
+    ap length (take_rest c.deref.result.now 1) ∙ omega (arith, length-drop 1 c.deref.result.now, ap length c.deref.ensures.value, c.in_ok-out.ensures.same, c.requires.shorter) in
+    Grows-then c.in_ok-out.ensures.grows (c.in_err-high.ensures.ands refl) (omega (arith, long, c.requires.shorter, c.requires.some)) (omega (arith, long, c.requires.shorter, c.requires.some))
+
+pub returns-in_err-extend_from_slice-clause-grows : goal.returns-in_err-extend_from_slice-clause-grows
+returns-in_err-extend_from_slice-clause-grows c =
+    let long : length (take (length c.deref.result.now - 1) (drop 1 c.deref.result.now)) ≡ length c.args.rest.now =
+    ap length (take_rest c.deref.result.now 1) ∙ omega (arith, length-drop 1 c.deref.result.now, ap length c.deref.ensures.value, c.in_ok-out.ensures.same, c.requires.shorter) in
+    Grows-then c.in_ok-out.ensures.grows (c.in_ok-high.ensures.ands refl) (omega (arith, long, c.requires.shorter, c.requires.some)) (omega (arith, long, c.requires.shorter, c.requires.some))
+
+pub returns-clause-grows : goal.returns-clause-grows
+returns-clause-grows c =
+    let long : length (take (length c.deref.result.now - 1) (drop 1 c.deref.result.now)) ≡ length c.args.rest.now =
+    ap length (take_rest c.deref.result.now 1) ∙ omega (arith, length-drop 1 c.deref.result.now, ap length c.deref.ensures.value, c.in_ok-out.ensures.same, c.requires.shorter) in
+    Grows-then c.in_ok-out.ensures.grows (c.in_ok-high.ensures.ands refl) (omega (arith, long, c.requires.shorter, c.requires.some)) (omega (arith, long, c.requires.shorter, c.requires.some))
