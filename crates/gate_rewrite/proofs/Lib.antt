@@ -1,0 +1,3 @@
+pub mod CopyLaws
+pub mod RuleLaws
+pub mod SweepLaws
