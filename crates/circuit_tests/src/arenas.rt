@@ -3,9 +3,9 @@ ghost use Rattle.gate_net.specs.Circuit.{Stands};
 ghost use Rattle.gate_arena.specs.Wiring.{right_of};
 
 use gate_arena::Arena;
-use gate_net::{Gate, GateFault, Lit, Net};
-use hy_links::Link;
-use std::alloc::Global;
+use gate_net::{GATE_LIMIT, Gate, GateFault, Lit, Net};
+use hy_links::{Link, MAX_NODES};
+use std::alloc::{AllocError, Global};
 use std::process::Abort;
 use std::test::Fail;
 
@@ -28,7 +28,7 @@ fn bypass(arena: &mut Arena, var: u32) {
 
 /// Replaces a gate's variable by that of an equal gate, which is new.
 fn renew(rt: &impl Abort, arena: &mut Arena, var: u32) -> Result<(), GateFault> {
-    assert!(rt; arena.nodes() < 1 << 24);
+    assert!(rt; arena.nodes() < MAX_NODES);
     if let Some(gate) = arena.gate(var) {
         arena.has_values();
         let by = arena.add(gate)?;
@@ -61,18 +61,56 @@ fn small(alloc: Global) -> Result<Arena, GateFault> {
     Arena::of(alloc, &net)
 }
 
+/// A gate as `A 2 4; ` or `X 5 6; `.
+fn gate_text(alloc: Global, gate: Gate) -> Result<String, AllocError> {
+    match gate {
+        Gate::And(a, b) => format!(in alloc; "A {} {}; ", a.code, b.code),
+        Gate::Xor(a, b) => format!(in alloc; "X {} {}; ", a.code, b.code),
+    }
+}
+
+/// The codes of literals, each after a blank.
+fn add_codes(alloc: Global, text: &mut String, lits: &[Lit]) -> Result<(), AllocError> {
+    for lit in lits {
+        let piece = format!(in alloc; " {}", lit.code)?;
+        text.push_str(&piece)?;
+    }
+    Ok(())
+}
+
+/// The gates of an arena as they now stand, and its outputs.
+fn arena_text(alloc: Global, arena: &Arena) -> Result<String, AllocError> {
+    let mut text = String::new(alloc);
+    for place in 0..arena.nodes() {
+        if let Some(gate) = arena.gate(arena.ins().saturating_add(place)) {
+            text.push_str(&gate_text(alloc, gate)?)?;
+        }
+    }
+    text.push_str("value")?;
+    add_codes(alloc, &mut text, arena.outs())?;
+    Ok(text)
+}
+
+/// The gates, the outputs and the budget of a net.
+pub fn net_text(alloc: Global, net: &Net) -> Result<String, AllocError> {
+    let mut text = String::new(alloc);
+    for gate in net.gates() {
+        text.push_str(&gate_text(alloc, *gate)?)?;
+    }
+    text.push_str("value")?;
+    add_codes(alloc, &mut text, net.outs())?;
+    text.push_str(&format!(in alloc; ", budget {}", net.budget())?)?;
+    Ok(text)
+}
+
 #[test]
 fn a_replaced_variable_is_gone_from_gates_and_outputs(rt: HostRuntime) -> Result<(), Fail> {
     let mut arena = small(rt.alloc())?;
     bypass(&mut arena, 2);
-    assert_eq!(rt; arena.gate(3), Some(Gate::Xor(lit(5), lit(4))));
-    assert_eq!(rt; arena.gate(4), Some(Gate::And(lit(5), lit(8))));
-    assert_eq!(rt; arena.outs(), [lit(10), lit(5), lit(4)].as_slice());
-    let net = arena.net(rt.alloc())?;
-    let gates = [Gate::Xor(lit(4), lit(5)), Gate::And(lit(5), lit(6))];
-    assert_eq!(rt; net.gates(), gates.as_slice());
-    assert_eq!(rt; net.outs(), [lit(8), lit(5), lit(4)].as_slice());
-    assert_eq!(rt; net.budget(), 3);
+    let text = arena_text(rt.alloc(), &arena)?;
+    assert_eq!(rt; text.as_str(), "A 2 4; X 5 4; A 5 8; value 10 5 4");
+    let text = net_text(rt.alloc(), &arena.net(rt.alloc())?)?;
+    assert_eq!(rt; text.as_str(), "X 4 5; A 5 6; value 8 5 4, budget 3");
     Ok(())
 }
 
@@ -80,11 +118,16 @@ fn a_replaced_variable_is_gone_from_gates_and_outputs(rt: HostRuntime) -> Result
 fn a_net_numbers_a_later_gate_before_those_that_take_it(rt: HostRuntime) -> Result<(), Fail> {
     let mut arena = small(rt.alloc())?;
     renew(&rt, &mut arena, 2)?;
-    assert_eq!(rt; arena.nodes(), 4);
-    assert_eq!(rt; arena.gate(3), Some(Gate::Xor(lit(5), lit(12))));
-    let net = arena.net(rt.alloc())?;
-    assert_eq!(rt; net.gates(), GATES.as_slice());
-    assert_eq!(rt; net.outs(), OUTS.as_slice());
+    let text = arena_text(rt.alloc(), &arena)?;
+    assert_eq!(rt;
+        text.as_str(),
+        "A 2 4; X 5 12; A 13 8; A 2 4; value 10 13 12"
+    );
+    let text = net_text(rt.alloc(), &arena.net(rt.alloc())?)?;
+    assert_eq!(rt;
+        text.as_str(),
+        "A 2 4; X 5 6; A 7 8; value 10 7 6, budget 3"
+    );
     Ok(())
 }
 
@@ -143,30 +186,53 @@ fn shortened(x: bool, y: bool) -> (bool, usize) {
     (bit, count)
 }
 
-#[test]
-fn a_net_of_many_gates_is_made_rewired_and_printed_in_time(rt: HostRuntime) -> Result<(), Fail> {
-    let mut net = Net::new(rt.alloc(), 2, LONG);
+/// The chain as a net.
+fn long_net(alloc: Global) -> Result<Net, GateFault> {
+    let mut net = Net::new(alloc, 2, LONG);
     let last = chain(&mut net)?;
-    net.set_outs(vec![in rt.alloc(); last; 1]?);
-    assert!(rt; net.gates().len() == LONG as usize);
-    let mut arena = Arena::of(rt.alloc(), &net)?;
+    net.set_outs(vec![in alloc; last; 1]?);
+    Ok(net)
+}
+
+/// The chain without the gates that are bypassed; none where the net has too many gates.
+fn short_net(alloc: Global, net: &Net) -> Result<Option<Net>, GateFault> {
+    if net.gates().len() > GATE_LIMIT as usize {
+        return Ok(None);
+    }
+    let mut arena = Arena::of(alloc, net)?;
     for var in 2..LONG + 2 {
         if is_bypassed(var) {
             bypass(&mut arena, var);
         }
     }
-    let short = arena.net(rt.alloc())?;
+    Ok(Some(arena.net(alloc)?))
+}
+
+/// The value of the one output where the two inputs are these bits; none where it is constant or there are more outputs or inputs.
+fn only_value(alloc: Global, net: &Net, ins: &[bool; 2]) -> Result<Option<bool>, GateFault> {
+    let gates = net.gates().len();
+    if net.ins() != 2 || net.outs().len() != 1 {
+        return Ok(None);
+    }
+    let mut buffer = vec![in alloc; false; gates + 2]?;
+    net.value(ins, &mut buffer);
+    let wire = net.outs()[0].code as usize / 2;
+    if wire == 0 {
+        return Ok(None);
+    }
+    Ok(buffer.get(wire - 1).copied())
+}
+
+#[test]
+fn a_net_of_many_gates_is_made_rewired_and_printed_in_time(rt: HostRuntime) -> Result<(), Fail> {
+    let net = long_net(rt.alloc())?;
+    assert_eq!(rt; net.gates().len(), LONG as usize);
+    let short = short_net(rt.alloc(), &net)?.ok_or("too many gates")?;
     for number in 0u8..4 {
         let ins = [number % 2 == 1, number / 2 == 1];
         let (bit, count) = shortened(ins[0], ins[1]);
         assert_eq!(rt; short.gates().len(), count);
-        let mut buffer = vec![in rt.alloc(); false; count + 2]?;
-        assert_eq!(rt; short.ins(), 2);
-        short.value(&ins, &mut buffer);
-        assert_eq!(rt; short.outs().len(), 1);
-        let wire = short.outs()[0].code as usize / 2;
-        assert!(rt; 0 < wire);
-        assert_eq!(rt; buffer.get(wire - 1).copied(), Some(bit));
+        assert_eq!(rt; only_value(rt.alloc(), &short, &ins)?, Some(bit));
     }
     Ok(())
 }

@@ -9,6 +9,25 @@ use hy_bits::Width;
 use std::alloc::Global;
 use std::test::Fail;
 
+/// Quotient and remainder of words by their circuit.
+fn divided(
+    alloc: Global,
+    form: Form,
+    signed: bool,
+    width: Width,
+    pair: (u64, u64),
+) -> Result<(u64, u64), GateFault>
+    requires first { IsWord width pair.0 }
+    requires second { IsWord width pair.1 }
+{
+    let (mut net, first, second) = two_words(alloc, width.bits())?;
+    let (quotient, remainder) = divide(alloc, &mut net, form, signed, &first, &second)?;
+    let (a, b) = pair;
+    let found = number_of(alloc, &net, &quotient, width, a, b)?;
+    let left = number_of(alloc, &net, &remainder, width, a, b)?;
+    Ok((found, left))
+}
+
 /// How many pairs of words the circuit of quotient and remainder answers otherwise than `hy_bits`.
 fn misses(alloc: Global, form: Form, signed: bool, width: Width) -> Result<u32, GateFault> {
     let (mut net, first, second) = two_words(alloc, width.bits())?;
@@ -46,14 +65,11 @@ fn quotients_and_remainders_are_those_of_words(rt: HostRuntime) -> Result<(), Fa
 
 #[test]
 fn minus_seven_by_two_is_minus_three_and_minus_one(rt: HostRuntime) -> Result<(), Fail> {
+    let width = Width::W32;
+    let wanted = (hy_bits::neg(width, 3), hy_bits::neg(width, 1));
+    let pair = (hy_bits::neg(width, 7), 2);
     for form in [Form::Compact, Form::Shallow] {
-        let (mut net, a, b) = two_words(rt.alloc(), 32)?;
-        let (quotient, remainder) = divide(rt.alloc(), &mut net, form, true, &a, &b)?;
-        let seven = hy_bits::neg(Width::W32, 7);
-        let found = number_of(rt.alloc(), &net, &quotient, Width::W32, seven, 2)?;
-        assert_eq!(rt; found, hy_bits::neg(Width::W32, 3));
-        let left = number_of(rt.alloc(), &net, &remainder, Width::W32, seven, 2)?;
-        assert_eq!(rt; left, hy_bits::neg(Width::W32, 1));
+        assert_eq!(rt; divided(rt.alloc(), form, true, width, pair)?, wanted);
     }
     Ok(())
 }

@@ -1,4 +1,4 @@
-//! Tests of gate lists, of their arenas and links, and of the blocks that compute operations on words.
+//! Tests of gate lists, of their arenas and links, of rewriting, and of the blocks that compute operations on words.
 #![tactic(auto)]
 
 #[cfg(test)]
@@ -13,5 +13,7 @@ mod links;
 mod nets;
 #[cfg(test)]
 mod products;
+#[cfg(test)]
+mod rewrites;
 #[cfg(test)]
 mod words;

@@ -1,9 +1,23 @@
-ghost use Rattle.std.specs.Prelude.{◌≡◌, length, IfOk};
+ghost use Rattle.std.specs.Prelude.{◌≡◌, ◌<◌, length, IfOk};
 ghost use Rattle.gate_net.specs.Circuit.{Stands};
 
 use gate_net::{Gate, GateFault, Lit, Net};
 use std::alloc::{AllocError, AllocFailed, Global};
 use std::test::Fail;
+
+/// The codes that `and` and `xor` answer for two literals of two inputs, how many gates they make, and the same for `and` again with
+/// the two changed over.
+fn answers(alloc: Global, a: u32, b: u32) -> Result<(u32, u32, usize, u32, usize), GateFault>
+    requires first { a < 6 }
+    requires second { b < 6 }
+{
+    let mut net = Net::new(alloc, 2, 8);
+    let both = net.and(Lit { code: a }, Lit { code: b })?;
+    let differ = net.xor(Lit { code: a }, Lit { code: b })?;
+    let gates = net.gates().len();
+    let again = net.and(Lit { code: b }, Lit { code: a })?;
+    Ok((both.code, differ.code, gates, again.code, net.gates().len()))
+}
 
 #[test]
 fn calls_fold_share_and_order(rt: HostRuntime) -> Result<(), Fail> {
@@ -22,17 +36,9 @@ fn calls_fold_share_and_order(rt: HostRuntime) -> Result<(), Fail> {
         (5, 3, 6, 8, 2),
     ];
     for (a, b, both, differ, gates) in rows {
-        let mut net = Net::new(rt.alloc(), 2, 8);
-        assert!(rt; a < 6);
-        assert!(rt; b < 6);
-        let first = net.and(Lit { code: a }, Lit { code: b })?;
-        assert_eq!(rt; first.code, both);
-        let second = net.xor(Lit { code: a }, Lit { code: b })?;
-        assert_eq!(rt; second.code, differ);
-        assert_eq!(rt; net.gates().len(), gates);
-        let again = net.and(Lit { code: b }, Lit { code: a })?;
-        assert_eq!(rt; again.code, both);
-        assert_eq!(rt; net.gates().len(), gates);
+        assert!(rt; a < 6 && b < 6);
+        let found = answers(rt.alloc(), a, b)?;
+        assert_eq!(rt; found, (both, differ, gates, both, gates));
     }
     Ok(())
 }
@@ -70,20 +76,26 @@ fn full_adder(alloc: Global) -> Result<Net, GateFault>
     Net::of(alloc, 3, gates.to_vec(alloc)?, outs.to_vec(alloc)?, 8)
 }
 
+/// The sum and the carry of three bits.
+fn added(net: &Net, ins: &[bool; 3]) -> (bool, bool)
+    requires ins { net.now.ins ≡ 3 }
+    requires gates { length net.now.gates ≡ 5 }
+{
+    let mut buffer = [false; 8];
+    net.value(ins, &mut buffer);
+    (buffer[4], buffer[7])
+}
+
 #[test]
 fn a_full_adder_has_its_values_ands_and_depth(rt: HostRuntime) -> Result<(), Fail> {
     let net = full_adder(rt.alloc())?;
-    assert_eq!(rt; net.ands(), 2);
-    assert_eq!(rt; net.depth(rt.alloc())?, 1);
+    assert_eq!(rt; (net.ands(), net.depth(rt.alloc())?), (2, 1));
     let levels = net.levels(rt.alloc())?;
     assert_eq!(rt; levels.as_slice(), [0, 0, 0, 0, 0, 1, 1, 1].as_slice());
     for number in 0u8..8 {
         let ins = [number % 2 == 1, number / 2 % 2 == 1, number / 4 == 1];
         let ones = number % 2 + number / 2 % 2 + number / 4;
-        let mut buffer = [false; 8];
-        net.value(&ins, &mut buffer);
-        assert_eq!(rt; buffer[4], ones % 2 == 1);
-        assert_eq!(rt; buffer[7], ones >= 2);
+        assert_eq!(rt; added(&net, &ins), (ones % 2 == 1, ones >= 2));
     }
     Ok(())
 }
@@ -109,31 +121,42 @@ fn chain(net: &mut Net, length: usize) -> Result<Lit, GateFault>
     Ok(last)
 }
 
+/// The bit at the end of the chain.
+fn chain_bit(ins: [bool; 2]) -> bool {
+    let mut bit = ins[1];
+    for place in 0..LONG {
+        bit = if place % 2 == 0 {
+            bit && !ins[0]
+        } else {
+            bit != ins[1]
+        };
+    }
+    bit
+}
+
+/// The bit of the last variable.
+fn last_bit(alloc: Global, net: &Net, ins: &[bool; 2]) -> Result<Option<bool>, GateFault>
+    requires { net.now.ins ≡ 2 }
+{
+    let mut buffer = vec![in alloc; false; net.gates().len() + 2]?;
+    net.value(ins, &mut buffer);
+    Ok(buffer.last().copied())
+}
+
 #[test]
 fn a_net_of_many_gates_is_built_shared_and_valued_in_time(rt: HostRuntime) -> Result<(), Fail> {
     let mut net = Net::new(rt.alloc(), 2, 1 << 21);
     let last = chain(&mut net, LONG)?;
-    assert_eq!(rt; net.gates().len(), LONG);
-    assert_eq!(rt; net.ands() as usize, LONG / 2);
     let again = chain(&mut net, LONG)?;
     assert_eq!(rt; again, last);
-    assert_eq!(rt; net.gates().len(), LONG);
+    let counts = (net.gates().len(), net.ands() as usize);
+    assert_eq!(rt; counts, (LONG, LONG / 2));
     for number in 0u8..4 {
         let ins = [number % 2 == 1, number / 2 == 1];
-        let mut buffer = vec![in rt.alloc(); false; LONG + 2]?;
-        net.value(&ins, &mut buffer);
-        let mut bit = ins[1];
-        for place in 0..LONG {
-            bit = if place % 2 == 0 {
-                bit && !ins[0]
-            } else {
-                bit != ins[1]
-            };
-        }
-        assert_eq!(rt; buffer.last().copied(), Some(bit));
+        let bit = last_bit(rt.alloc(), &net, &ins)?;
+        assert_eq!(rt; bit, Some(chain_bit(ins)));
     }
-    let outs = vec![in rt.alloc(); last; 1]?;
-    net.set_outs(outs);
+    net.set_outs(vec![in rt.alloc(); last; 1]?);
     assert_eq!(rt; net.depth(rt.alloc())? as usize, LONG / 2);
     Ok(())
 }

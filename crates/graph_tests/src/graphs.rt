@@ -172,15 +172,27 @@ fn near_misses_of_folds_make_nodes(rt: HostRuntime) -> Result<(), Fail> {
     Ok(())
 }
 
-/// Calls over the nodes of `base`, and their values where the two numbers are 200 and 100: the sum, the difference of
-/// the second and the first, the product, whether the first is less by the signed reading, and what that bit chooses.
-const VALUES: [(Call, u64); 5] = [
-    ((Op::Add, BYTE, 2, [0, 1, 0]), 44),
-    ((Op::Sub, BYTE, 2, [1, 0, 0]), 156),
-    ((Op::Mul, BYTE, 2, [0, 1, 0]), 32),
-    ((Op::LtS, BIT, 2, [0, 1, 0]), 1),
-    ((Op::Sel, BYTE, 3, [15, 1, 0]), 100),
+/// Calls over the nodes of `base`: the sum, the difference of the second and the first, the product, whether the first is less by the
+/// signed reading, and what that bit chooses.
+const CALLS: [Call; 5] = [
+    (Op::Add, BYTE, 2, [0, 1, 0]),
+    (Op::Sub, BYTE, 2, [1, 0, 0]),
+    (Op::Mul, BYTE, 2, [0, 1, 0]),
+    (Op::LtS, BIT, 2, [0, 1, 0]),
+    (Op::Sel, BYTE, 3, [15, 1, 0]),
 ];
+
+/// The values of those calls where the two numbers are 200 and 100.
+const VALUES: [u64; 5] = [44, 156, 32, 1, 100];
+
+/// The graph of `base` with the nodes of those calls.
+fn grown(rt: &impl Abort, alloc: Global) -> Result<Graph, GraphFault> {
+    let mut graph = base(rt, alloc)?;
+    for call in CALLS {
+        ask(rt, &mut graph, call, 0)?;
+    }
+    Ok(graph)
+}
 
 /// The values of all nodes, where the graph takes these inputs; else none.
 fn values_of(alloc: Global, graph: &Graph, words: Vec<u64>) -> Result<Vec<u64>, GraphFault> {
@@ -195,15 +207,11 @@ fn values_of(alloc: Global, graph: &Graph, words: Vec<u64>) -> Result<Vec<u64>, 
 
 #[test]
 fn a_graph_has_its_values(rt: HostRuntime) -> Result<(), Fail> {
-    let mut graph = base(&rt, rt.alloc())?;
-    for (call, _) in VALUES {
-        ask(&rt, &mut graph, call, 0)?;
-    }
+    let graph = grown(&rt, rt.alloc())?;
     let words = [200, 100, 1, 0].to_vec(rt.alloc())?;
     let values = values_of(rt.alloc(), &graph, words)?;
-    for (place, (_, value)) in VALUES.iter().enumerate() {
-        assert_eq!(rt; values.get(12 + place).copied(), Some(*value));
-    }
+    assert_eq!(rt; values.len(), 17);
+    assert_eq!(rt; &values[12..], VALUES.as_slice());
     Ok(())
 }
 
@@ -217,30 +225,46 @@ fn inputs_that_do_not_fit_are_told(rt: HostRuntime) -> Result<(), Fail> {
     Ok(())
 }
 
+/// The graph of the entries of another.
+fn again(alloc: Global, graph: &Graph) -> Result<Graph, GraphFault> {
+    let entries = graph.entries().to_vec(alloc)?;
+    Graph::of(alloc, entries)
+}
+
 #[test]
 fn a_graph_is_made_again_of_its_entries(rt: HostRuntime) -> Result<(), Fail> {
     let graph = base(&rt, rt.alloc())?;
-    let entries = graph.entries().to_vec(rt.alloc())?;
-    let again = Graph::of(rt.alloc(), entries)?;
+    let again = again(rt.alloc(), &graph)?;
     assert!(rt; again.entries() == graph.entries());
-    assert_eq!(rt; again.constant_of(Node { index: 6 }), Some(255));
-    assert_eq!(rt; again.constant_of(Node { index: 11 }), None);
+    let constants = [6, 11].map(|index| again.constant_of(Node { index }));
+    assert_eq!(rt; constants, [Some(255), None]);
     Ok(())
+}
+
+/// A graph with as many inputs of one bit as it may have nodes.
+fn full(rt: &impl Abort, alloc: Global) -> Result<Graph, GraphFault> {
+    let mut graph = Graph::new(alloc);
+    for number in 0..1 << 20 {
+        ask(rt, &mut graph, (Op::In, BIT, 0, [0; 3]), number)?;
+    }
+    Ok(graph)
 }
 
 #[test]
 fn the_limit_comes_where_a_new_node_is_wanted(rt: HostRuntime) -> Result<(), Fail> {
-    let input = (Op::In, BIT, 0, [0; 3]);
-    let mut graph = Graph::new(rt.alloc());
-    for number in 0..1 << 20 {
-        ask(&rt, &mut graph, input, number)?;
+    let mut graph = full(&rt, rt.alloc())?;
+    let rows = [
+        ((Op::In, BIT, 0, [0; 3]), 77, Ok(77)),
+        (
+            (Op::In, BIT, 0, [0; 3]),
+            1 << 20,
+            Err(GraphFault::NodeLimit(1 << 20)),
+        ),
+        ((Op::And, BIT, 2, [5, 5, 0]), 0, Ok(5)),
+    ];
+    for (call, number, wanted) in rows {
+        assert_eq!(rt; ask(&rt, &mut graph, call, number), wanted);
     }
-    assert_eq!(rt; ask(&rt, &mut graph, input, 77)?, 77);
-    assert_eq!(rt;
-        ask(&rt, &mut graph, input, 1 << 20),
-        Err(GraphFault::NodeLimit(1 << 20))
-    );
-    assert_eq!(rt; ask(&rt, &mut graph, (Op::And, BIT, 2, [5, 5, 0]), 0)?, 5);
     assert_eq!(rt; graph.entries().len(), 1 << 20);
     Ok(())
 }

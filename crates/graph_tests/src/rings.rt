@@ -2,6 +2,7 @@ use hy_bits::{Memory, Op, Width};
 use module_split::{Class, split};
 use ring_net::{RingArg, RingGate, RingNet, ring_of};
 use std::alloc::Global;
+use std::process::Abort;
 use std::test::Fail;
 use word_graph::{Entry, Graph, GraphFault, Node};
 
@@ -137,11 +138,10 @@ const GATES_OF_MODULE: [RingGate; 2] = [
     },
 ];
 
-#[test]
-fn a_module_has_one_gate_for_each_node(rt: HostRuntime) -> Result<(), Fail> {
-    let entries = ENTRIES.to_vec(rt.alloc())?;
-    let graph = Graph::of(rt.alloc(), entries)?;
-    let modules = split(rt.alloc(), &graph, &[Node { index: 5 }], 64)?;
+/// The ring circuit of the first of two modules, which is arithmetic.
+fn first_ring(rt: &impl Abort, alloc: Global) -> Result<RingNet, Fail> {
+    let graph = Graph::of(alloc, ENTRIES.to_vec(alloc)?)?;
+    let modules = split(alloc, &graph, &[Node { index: 5 }], 64)?;
     let list = modules.list();
     assert_eq!(rt; list.len(), 2);
     let module = &list[0];
@@ -149,7 +149,12 @@ fn a_module_has_one_gate_for_each_node(rt: HostRuntime) -> Result<(), Fail> {
     let nodes = module.nodes.as_slice();
     let ins = module.ins.as_slice();
     let outs = module.outs.as_slice();
-    let net = ring_of(rt.alloc(), &graph, nodes, ins, outs)?;
+    Ok(ring_of(alloc, &graph, nodes, ins, outs)?)
+}
+
+#[test]
+fn a_module_has_one_gate_for_each_node(rt: HostRuntime) -> Result<(), Fail> {
+    let net = first_ring(&rt, rt.alloc())?;
     assert!(rt; net.ins() == [WORD; 2].as_slice());
     assert!(rt; net.gates() == GATES_OF_MODULE.as_slice());
     assert!(rt; net.outs() == [3].as_slice());

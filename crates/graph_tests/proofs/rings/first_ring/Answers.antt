@@ -4,7 +4,7 @@ use Rattle.word_graph.specs.declared.entry.Node.{Node}
 use Rattle.module_split.specs.declared.module.Module.{Module}
 use Rattle.module_split.specs.Pieces.{Pieces}
 use Rattle.module_split.specs.Cut.{cut_of}
-use Rattle.graph_tests.proofs.rings.a_module_has_one_gate_for_each_node.Goals as goal
+use Rattle.graph_tests.proofs.rings.first_ring.Goals as goal
 
 -- the first module is one that `split` gave
 pub ring_of-requires : goal.ring_of-requires
