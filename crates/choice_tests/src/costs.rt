@@ -4,7 +4,7 @@ ghost use Rattle.choice_core.specs.declared.sharings.Choice.{Choice};
 ghost use Rattle.choice_core.specs.Problems.{Fits, IsAssignment, IsProblem};
 
 use crate::samples::{edge, ladder};
-use choice_core::{Choice, Problem, bound, cost, rise};
+use choice_core::{Choice, Fan, Problem, bound, cost, rise};
 use hy_bits::{Memory, Sequence};
 use std::alloc::{AllocError, Global};
 use std::process::Abort;
@@ -118,12 +118,24 @@ fn one_shorter(alloc: Global, longer: &[u64]) -> Result<Vec<u64>, AllocError> {
     let third = longer.len() / 3;
     let mut least = Vec::new(alloc);
     for number in 0..third {
-        let first = longer.get(number).copied().unwrap_or(0);
-        let second = longer.get(number + third).copied().unwrap_or(0);
-        let last = longer.get(number + third + third).copied().unwrap_or(0);
-        least.push(first.min(second).min(last))?;
+        least.push(least_of_three(longer, number, third))?;
     }
     Ok(least)
+}
+
+/// The least of the numbers in a place, and one and two steps after it.
+fn least_of_three(numbers: &[u64], place: usize, step: usize) -> u64 {
+    let first = number_at(numbers, Some(place));
+    let second = number_at(numbers, place.checked_add(step));
+    let last = number_at(numbers, place.checked_add(step.saturating_mul(2)));
+    first.min(second).min(last)
+}
+
+fn number_at(numbers: &[u64], place: Option<usize>) -> u64 {
+    match place {
+        Some(place) if place < numbers.len() => numbers[place],
+        _ => 0,
+    }
 }
 
 /// The costs of all lists on a ladder, and the bounds of all prefixes.
@@ -253,22 +265,33 @@ fn a_rise_at_twenty_thousand_fans_takes_no_time_of_pairs(rt: HostRuntime) -> Res
     Ok(())
 }
 
+/// Whether a fan goes from one module to another one alone.
+fn is_edge(fan: &Fan, from: u32, to: u32) -> bool {
+    fan.from == from && is_only(fan.to.as_slice(), to)
+}
+
+/// Whether a list has one number alone.
+fn is_only(numbers: &[u32], number: u32) -> bool {
+    match numbers {
+        [only] => *only == number,
+        _ => false,
+    }
+}
+
 #[test]
 fn a_middle_module_is_touched_by_its_two_edges(rt: HostRuntime) -> Result<(), Fail> {
     let problem = ladder(rt.alloc(), 2)?;
     assert_eq!(rt; problem.touching_count(2), 2);
-    let first = problem.touching_fan(2, 0);
-    let last = problem.touching_fan(2, 1);
-    assert_eq!(rt; (first.from, first.to.as_slice()), (0, [2].as_slice()));
-    assert_eq!(rt; (last.from, last.to.as_slice()), (2, [4].as_slice()));
+    assert!(rt; is_edge(problem.touching_fan(2, 0), 0, 2));
+    assert!(rt; is_edge(problem.touching_fan(2, 1), 2, 4));
     Ok(())
 }
 
 #[test]
 fn each_module_is_followed_by_those_that_its_fans_go_on_to(rt: HostRuntime) -> Result<(), Fail> {
     let problem = ladder(rt.alloc(), 2)?;
-    assert_eq!(rt; problem.following(0), [2].as_slice());
-    assert_eq!(rt; problem.following(2), [4].as_slice());
-    assert_eq!(rt; problem.following(4), [].as_slice());
+    assert!(rt; is_only(problem.following(0), 2));
+    assert!(rt; is_only(problem.following(2), 4));
+    assert_eq!(rt; problem.following(4).len(), 0);
     Ok(())
 }

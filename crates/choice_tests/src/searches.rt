@@ -170,6 +170,23 @@ fn others(node: TreeNode, cost: u64) -> [Option<TreeNode>; 3] {
     }
 }
 
+/// What `best` finds, as far as the tests go on with it.
+fn found(alloc: Global, problem: &Problem) -> Result<(Sequence<Choice>, Tree), SearchFault>
+    requires { IsProblem problem.now }
+    ensures assigned { IfOk result (λ found. IsAssignment problem.now found.0) }
+    ensures few { IfOk result (λ found. length found.1.nodes < 2 ^ 32) }
+{
+    best(alloc, problem)
+}
+
+fn assert_choices(rt: &impl Abort, found: &[Choice], list: &[Choice]) {
+    assert_eq!(rt; found, list);
+}
+
+fn assert_nodes(rt: &impl Abort, found: &Tree, nodes: &[TreeNode]) {
+    assert_eq!(rt; found.nodes.as_slice(), nodes);
+}
+
 /// Alters one node of a tree in each way, and checks each tree that comes of it.
 fn refuse_altered(
     rt: &impl Abort,
@@ -218,17 +235,26 @@ fn compare_trees(
     Ok(())
 }
 
+/// Compares what is found with a walk over all lists, and the tree with each altered one.
+fn compare_best(rt: &impl Abort, alloc: Global, problem: &Problem) -> Result<(), Fail>
+    requires problem { IsProblem problem.now }
+    requires four { length problem.now.own ≡ 4 }
+{
+    let (choices, tree) = found(alloc, problem)?;
+    let (list, least) = plain_best(problem);
+    assert_choices(rt, choices.as_slice(), list.as_slice());
+    assert_eq!(rt; cost(problem, choices.as_slice()), least);
+    compare_trees(rt, alloc, problem, choices.as_slice(), &tree)?;
+    Ok(())
+}
+
 #[test]
 fn the_first_list_of_least_cost_is_found_and_its_tree_alone_passes(
     rt: HostRuntime,
 ) -> Result<(), Fail> {
     for seed in 0..300 {
         let problem = small(&rt, rt.alloc(), seed)?;
-        let (choices, tree) = best(rt.alloc(), &problem)?;
-        let (list, least) = plain_best(&problem);
-        assert_eq!(rt; choices.as_slice(), list.as_slice());
-        assert_eq!(rt; cost(&problem, choices.as_slice()), least);
-        compare_trees(&rt, rt.alloc(), &problem, choices.as_slice(), &tree)?;
+        compare_best(&rt, rt.alloc(), &problem)?;
     }
     Ok(())
 }
@@ -236,20 +262,24 @@ fn the_first_list_of_least_cost_is_found_and_its_tree_alone_passes(
 #[test]
 fn ties_go_by_the_first_choices(rt: HostRuntime) -> Result<(), Fail> {
     let problem = three(rt.alloc())?;
-    let (choices, tree) = best(rt.alloc(), &problem)?;
-    assert_eq!(rt;
-        choices.as_slice(),
-        [Choice::S, Choice::Y, Choice::Y].as_slice()
-    );
-    assert_eq!(rt; tree.nodes.as_slice(), THREE.as_slice());
+    let (choices, tree) = found(rt.alloc(), &problem)?;
+    let first = [Choice::S, Choice::Y, Choice::Y];
+    assert_choices(&rt, choices.as_slice(), first.as_slice());
+    assert_nodes(&rt, &tree, THREE.as_slice());
     Ok(())
+}
+
+/// Whether all choices are Y.
+fn all_yao(choices: &[Choice]) -> bool {
+    choices.iter().all(|choice| *choice == Choice::Y)
 }
 
 #[test]
 fn a_ladder_of_sixteen_leaves_takes_its_branches(rt: HostRuntime) -> Result<(), Fail> {
     let problem = ladder(rt.alloc(), 16)?;
-    let (choices, tree) = best(rt.alloc(), &problem)?;
-    assert_eq!(rt; choices.as_slice(), [Choice::Y; 33].as_slice());
+    let (choices, tree) = found(rt.alloc(), &problem)?;
+    assert_eq!(rt; choices.as_slice().len(), 33);
+    assert!(rt; all_yao(choices.as_slice()));
     assert_eq!(rt; cost(&problem, choices.as_slice()), 8);
     assert_eq!(rt; tree.nodes.as_slice().len(), 352777);
     Ok(())
@@ -258,6 +288,6 @@ fn a_ladder_of_sixteen_leaves_takes_its_branches(rt: HostRuntime) -> Result<(), 
 #[test]
 fn a_ladder_of_twenty_leaves_has_too_many(rt: HostRuntime) -> Result<(), Fail> {
     let problem = ladder(rt.alloc(), 20)?;
-    assert!(rt; matches!(best(rt.alloc(), &problem), Err(SearchFault::BranchLimit)));
+    assert!(rt; matches!(found(rt.alloc(), &problem), Err(SearchFault::BranchLimit)));
     Ok(())
 }

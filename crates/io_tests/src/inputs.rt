@@ -4,8 +4,10 @@ ghost use Rattle.hy_bits.specs.declared.scalar.Scalar.TheVariants.{S8, U64, B1};
 ghost use Rattle.hy_bits.specs.declared.shape.Field.{out-Field};
 ghost use Rattle.json_values.specs.Text.{has_text_names, HasTextFields};
 
+use crate::rows::{bytes_of, parts};
+use crate::table::{EDGES, FAULTS, PATHS, ROWS};
 use hy_bits::{Field, Inputs, Memory, Port, Role, Scalar, Shape, Text};
-use json_values::{InputFault, InputKind, inputs_of, own_inputs, text_of};
+use json_values::{InputFault, inputs_of, own_inputs, text_of};
 use sqlite_items::{Boxed, Items};
 use std::alloc::Global;
 use std::process::Abort;
@@ -18,118 +20,57 @@ fn ports(alloc: Global, role: Role, name: &[u8], shape: Shape) -> Result<Vec<Por
     Ok(vec![in alloc; port]?)
 }
 
-/// The answer has these words.
-fn assert_words(rt: &impl Abort, answer: &Result<Inputs, InputFault>, words: &[u64], text: &str) {
-    match answer {
-        Ok(inputs) => assert_eq!(rt; inputs.words(), words, "{text}"),
-        Err(fault) => assert!(rt; false, "{text}: {fault:?}"),
+/// Words in print.
+fn printed_words(alloc: Global, words: &[u64]) -> Result<String, Fail> {
+    let mut all = String::new(alloc);
+    for (index, word) in words.iter().enumerate() {
+        if index > 0 {
+            all.push_str(" ")?;
+        }
+        let word = format!(in alloc; "{word}")?;
+        all.push_str(word.as_str())?;
     }
+    Ok(all)
 }
 
-/// The answer is this fault.
-fn assert_fault(
-    rt: &impl Abort,
-    answer: &Result<Inputs, InputFault>,
-    file: Role,
-    fault: (InputKind, &str),
-    text: &str,
-) {
+/// An answer in print: the words, or the fault with its file and its path.
+fn printed(alloc: Global, answer: Result<Inputs, InputFault>) -> Result<String, Fail> {
     match answer {
-        Ok(_) => assert!(rt; false, "{text}"),
-        Err(found) => {
-            assert_eq!(rt; found.fault, fault.0, "{text}");
-            assert_eq!(rt; found.file, file, "{text}");
-            assert_eq!(rt; found.name.as_bytes(), fault.1.as_bytes(), "{text}");
+        Ok(inputs) => printed_words(alloc, inputs.words()),
+        Err(InputFault { fault, file, name }) => {
+            let name = str::from_utf8(name.as_bytes())?;
+            Ok(format!(in alloc; "{fault:?} {file:?} {name}")?)
         }
     }
 }
 
-/// Texts of A with a fault, at one port `unsigned char INPUT_A_x`.
-const FAULTS: [(&str, InputKind, &str); 30] = [
-    ("{}", InputKind::Missing, "INPUT_A_x"),
-    ("{\"INPUT_A_x\":1,\"k\":2}", InputKind::Extra, "k"),
-    ("{\"INPUT_A_x\":256}", InputKind::Range, "INPUT_A_x"),
-    ("{\"INPUT_A_x\":1.5}", InputKind::NotWhole, "INPUT_A_x"),
-    ("{\"INPUT_A_x\":[1]}", InputKind::Shape, "INPUT_A_x"),
-    // a member's place before members that are too many, and of these the least
-    ("{\"a\":0}", InputKind::Missing, "INPUT_A_x"),
-    ("{\"INPUT_A_x\":-1,\"a\":0}", InputKind::Range, "INPUT_A_x"),
-    (
-        "{\"b\":0,\"INPUT_A_x\":1,\"ab\":0,\"b\":1}",
-        InputKind::Extra,
-        "ab",
-    ),
-    (
-        "{\"INPUT_A_\":0,\"INPUT_A_x\":1}",
-        InputKind::Extra,
-        "INPUT_A_",
-    ),
-    (
-        "{\"INPUT_A_xx\":0,\"INPUT_A_x\":1}",
-        InputKind::Extra,
-        "INPUT_A_xx",
-    ),
-    // names are what their escapes say
-    (
-        "{\"INPUT_A_x\":1,\"\\u0061\\\"\\\\\\u0001\":2}",
-        InputKind::Extra,
-        "a\"\\\u{1}",
-    ),
-    ("{\"INPUT_A_\\u0079\":1}", InputKind::Missing, "INPUT_A_x"),
-    // of equal names the last counts
-    (
-        "{\"INPUT_A_x\":1,\"INPUT_A_x\":256}",
-        InputKind::Range,
-        "INPUT_A_x",
-    ),
-    (
-        "{\"INPUT_A_x\":1,\"INPUT_A_x\":{}}",
-        InputKind::Shape,
-        "INPUT_A_x",
-    ),
-    // what is no number
-    ("{\"INPUT_A_x\":true}", InputKind::Shape, "INPUT_A_x"),
-    ("{\"INPUT_A_x\":null}", InputKind::Shape, "INPUT_A_x"),
-    ("{\"INPUT_A_x\":\"1\"}", InputKind::Shape, "INPUT_A_x"),
-    ("{\"INPUT_A_x\":[[1]]}", InputKind::Shape, "INPUT_A_x"),
-    (
-        "{\"INPUT_A_x\":{\"INPUT_A_x\":1}}",
-        InputKind::Shape,
-        "INPUT_A_x",
-    ),
-    // what is read as a float
-    ("{\"INPUT_A_x\":1.0}", InputKind::NotWhole, "INPUT_A_x"),
-    ("{\"INPUT_A_x\":1e0}", InputKind::NotWhole, "INPUT_A_x"),
-    ("{\"INPUT_A_x\":1e-400}", InputKind::NotWhole, "INPUT_A_x"),
-    ("{\"INPUT_A_x\":-0}", InputKind::NotWhole, "INPUT_A_x"),
-    (
-        "{\"INPUT_A_x\":18446744073709551616}",
-        InputKind::NotWhole,
-        "INPUT_A_x",
-    ),
-    (
-        "{\"INPUT_A_x\":18446744073709551615}",
-        InputKind::Range,
-        "INPUT_A_x",
-    ),
-    // what is no text of one object
-    ("{\"INPUT_A_x\":1e400}", InputKind::Json, ""),
-    ("{\"INPUT_A_x\":01}", InputKind::Json, ""),
-    ("{\"INPUT_A_x\":1}{}", InputKind::Json, ""),
-    ("[1]", InputKind::Json, ""),
-    ("1", InputKind::Json, ""),
-];
+/// Compares the answer with what a row wants.
+fn assert_row(
+    rt: &impl Abort,
+    alloc: Global,
+    answer: Result<Inputs, InputFault>,
+    want: &str,
+    row: &str,
+) -> Result<(), Fail> {
+    let found = printed(alloc, answer)?;
+    let want = bytes_of(alloc, want)?;
+    assert_eq!(rt; found.as_bytes(), want.as_slice(), "{row}");
+    Ok(())
+}
 
 #[test]
 fn the_first_fault_of_a_text_is_told(rt: HostRuntime) -> Result<(), Fail> {
     let alloc = rt.alloc();
     let ports = ports(alloc, Role::P0, b"INPUT_A_x", Shape::Scalar(Scalar::U8))?;
-    for (text, kind, name) in FAULTS {
-        let answer = inputs_of(alloc, text.as_bytes(), b"{}", ports.as_slice());
-        assert_fault(&rt, &answer, Role::P0, (kind, name), text);
+    let mut count = 0u32;
+    for row in FAULTS.lines() {
+        let (text, want) = parts(row)?;
+        let text = bytes_of(alloc, text)?;
+        let answer = inputs_of(alloc, text.as_slice(), b"{}", ports.as_slice());
+        assert_row(&rt, alloc, answer, want, row)?;
+        count = count.saturating_add(1);
     }
-    let answer = inputs_of(alloc, b"{\"INPUT_A_x\":\"\xff\"}", b"{}", ports.as_slice());
-    assert_fault(&rt, &answer, Role::P0, (InputKind::Json, ""), "no UTF-8");
+    assert_eq!(rt; count, ROWS[0]);
     Ok(())
 }
 
@@ -150,98 +91,65 @@ fn all_of_a_comes_before_any_of_b(rt: HostRuntime) -> Result<(), Fail> {
     let a = "{\"INPUT_A_x\":255,\"INPUT_A_x\":7}";
     let b = "{\"INPUT_B_\\u0079\":-1}";
     let extra = "{\"INPUT_A_x\":7,\"INPUT_B_y\":1}";
-    let words = inputs_of(alloc, a.as_bytes(), b.as_bytes(), ports.as_slice());
-    assert_words(&rt, &words, [255u64, 7].as_slice(), "both");
-    let first = inputs_of(alloc, extra.as_bytes(), b"[", ports.as_slice());
-    assert_fault(&rt, &first, Role::P0, (InputKind::Extra, "INPUT_B_y"), "A");
-    let second = inputs_of(alloc, a.as_bytes(), b"{}", ports.as_slice());
-    assert_fault(
-        &rt,
-        &second,
-        Role::P1,
-        (InputKind::Missing, "INPUT_B_y"),
-        "B",
-    );
+    for (a, b, want) in [
+        (a, b, "255 7"),
+        (extra, "[", "Extra P0 INPUT_B_y"),
+        (a, "{}", "Missing P1 INPUT_B_y"),
+    ] {
+        let answer = inputs_of(alloc, a.as_bytes(), b.as_bytes(), ports.as_slice());
+        assert_row(&rt, alloc, answer, want, b)?;
+    }
     Ok(())
 }
 
-/// For each scalar the numbers at its ends, each with its word, and the numbers one past them, each with its fault.
-const EDGES: [(Scalar, [(&str, u64); 2], [(&str, InputKind); 2]); 9] = [
-    (
+/// The scalar of this name.
+fn scalar_named(name: &str) -> Result<Scalar, Fail> {
+    for scalar in [
         Scalar::B1,
-        [("0", 0), ("1", 1)],
-        [("-1", InputKind::Range), ("2", InputKind::Range)],
-    ),
-    (
         Scalar::S8,
-        [("-128", 128), ("127", 127)],
-        [("-129", InputKind::Range), ("128", InputKind::Range)],
-    ),
-    (
         Scalar::U8,
-        [("0", 0), ("255", 255)],
-        [("-1", InputKind::Range), ("256", InputKind::Range)],
-    ),
-    (
         Scalar::S16,
-        [("-32768", 0x8000), ("32767", 0x7fff)],
-        [("-32769", InputKind::Range), ("32768", InputKind::Range)],
-    ),
-    (
         Scalar::U16,
-        [("0", 0), ("65535", 0xffff)],
-        [("-1", InputKind::Range), ("65536", InputKind::Range)],
-    ),
-    (
         Scalar::S32,
-        [("-2147483648", 0x8000_0000), ("2147483647", 0x7fff_ffff)],
-        [
-            ("-2147483649", InputKind::Range),
-            ("2147483648", InputKind::Range),
-        ],
-    ),
-    (
         Scalar::U32,
-        [("0", 0), ("4294967295", 0xffff_ffff)],
-        [("-1", InputKind::Range), ("4294967296", InputKind::Range)],
-    ),
-    (
         Scalar::S64,
-        [
-            ("-9223372036854775808", 1 << 63),
-            ("9223372036854775807", u64::MAX >> 1),
-        ],
-        [
-            ("-9223372036854775809", InputKind::NotWhole),
-            ("9223372036854775808", InputKind::Range),
-        ],
-    ),
-    (
         Scalar::U64,
-        [("0", 0), ("18446744073709551615", u64::MAX)],
-        [
-            ("-1", InputKind::Range),
-            ("18446744073709551616", InputKind::NotWhole),
-        ],
-    ),
-];
+    ] {
+        if name_of(scalar) == name {
+            return Ok(scalar);
+        }
+    }
+    Err("a scalar".into())
+}
+
+fn name_of(scalar: Scalar) -> &'static str {
+    match scalar {
+        Scalar::B1 => "B1",
+        Scalar::S8 => "S8",
+        Scalar::U8 => "U8",
+        Scalar::S16 => "S16",
+        Scalar::U16 => "U16",
+        Scalar::S32 => "S32",
+        Scalar::U32 => "U32",
+        Scalar::S64 => "S64",
+        Scalar::U64 => "U64",
+    }
+}
 
 #[test]
 fn a_scalar_holds_its_numbers_to_both_ends(rt: HostRuntime) -> Result<(), Fail> {
     let alloc = rt.alloc();
-    for (scalar, ends, past) in EDGES {
-        let ports = ports(alloc, Role::P1, b"y", Shape::Scalar(scalar))?;
-        for (number, word) in ends {
-            let text = format!(in alloc; "{{\"y\":{number}}}")?;
-            let answer = own_inputs(alloc, text.as_bytes(), Role::P1, ports.as_slice());
-            assert_words(&rt, &answer, [word].as_slice(), number);
-        }
-        for (number, kind) in past {
-            let text = format!(in alloc; "{{\"y\":{number}}}")?;
-            let answer = own_inputs(alloc, text.as_bytes(), Role::P1, ports.as_slice());
-            assert_fault(&rt, &answer, Role::P1, (kind, "y"), number);
-        }
+    let mut count = 0u32;
+    for row in EDGES.lines() {
+        let (text, want) = parts(row)?;
+        let (name, number) = text.split_once(' ').ok_or("a scalar and a number")?;
+        let ports = ports(alloc, Role::P1, b"y", Shape::Scalar(scalar_named(name)?))?;
+        let text = format!(in alloc; "{{\"y\":{number}}}")?;
+        let answer = own_inputs(alloc, text.as_bytes(), Role::P1, ports.as_slice());
+        assert_row(&rt, alloc, answer, want, row)?;
+        count = count.saturating_add(1);
     }
+    assert_eq!(rt; count, ROWS[1]);
     Ok(())
 }
 
@@ -294,59 +202,38 @@ fn a_value_is_printed_and_read_back(rt: HostRuntime) -> Result<(), Fail> {
     let shape = nested(alloc)?;
     let text = text_of(alloc, &shape, WORDS.as_slice())?.to_string(alloc)?;
     assert_eq!(rt; text.as_str(), NESTED);
-    let ports = ports(alloc, Role::P0, b"INPUT_A_p", shape)?;
-    let text = format!(in alloc; "{{\"INPUT_A_p\":{NESTED}}}")?;
-    let answer = inputs_of(alloc, text.as_bytes(), b"{}", ports.as_slice());
-    assert_words(&rt, &answer, WORDS.as_slice(), NESTED);
-    for end in 0..text.len() {
-        let cut = &text.as_bytes()[..end];
-        let answer = own_inputs(alloc, cut, Role::P0, ports.as_slice());
-        assert_fault(&rt, &answer, Role::P0, (InputKind::Json, ""), "a cut text");
-    }
     Ok(())
 }
 
-/// Values of the port of `nested`, with the fault and the path to it.
-const PATHS: [(&str, InputKind, &str); 8] = [
-    ("[]", InputKind::Shape, "INPUT_A_p"),
-    ("{\"a\":[]}", InputKind::Missing, "INPUT_A_p.z"),
-    ("{\"z\":0,\"a\":[{}]}", InputKind::Shape, "INPUT_A_p.a"),
-    (
-        "{\"z\":0,\"a\":[{\"n\":[0,0],\"b\":0},7]}",
-        InputKind::Shape,
-        "INPUT_A_p.a[1]",
-    ),
-    (
-        "{\"z\":0,\"a\":[{\"n\":[0,0],\"b\":2},7]}",
-        InputKind::Range,
-        "INPUT_A_p.a[0].b",
-    ),
-    (
-        "{\"z\":0,\"a\":[{\"n\":[0,1.5],\"c\":0},7]}",
-        InputKind::NotWhole,
-        "INPUT_A_p.a[0].n[1]",
-    ),
-    (
-        "{\"z\":0,\"a\":[{\"n\":[0,0],\"b\":0,\"c\":0},7]}",
-        InputKind::Extra,
-        "INPUT_A_p.a[0].c",
-    ),
-    (
-        "{\"z\":0,\"y\":0,\"a\":[{\"n\":[0,0],\"b\":0},{\"n\":[0,0],\"b\":0}]}",
-        InputKind::Extra,
-        "INPUT_A_p.y",
-    ),
-];
+#[test]
+fn a_printed_value_is_read_and_no_cut_one(rt: HostRuntime) -> Result<(), Fail> {
+    let alloc = rt.alloc();
+    let ports = ports(alloc, Role::P0, b"INPUT_A_p", nested(alloc)?)?;
+    let text = format!(in alloc; "{{\"INPUT_A_p\":{NESTED}}}")?;
+    let want = printed_words(alloc, WORDS.as_slice())?;
+    let answer = inputs_of(alloc, text.as_bytes(), b"{}", ports.as_slice());
+    assert_row(&rt, alloc, answer, want.as_str(), NESTED)?;
+    for end in 0..text.len() {
+        let cut = &text.as_bytes()[..end];
+        let answer = own_inputs(alloc, cut, Role::P0, ports.as_slice());
+        assert_row(&rt, alloc, answer, "Json P0 ", "a cut text")?;
+    }
+    Ok(())
+}
 
 #[test]
 fn a_path_leads_to_the_place(rt: HostRuntime) -> Result<(), Fail> {
     let alloc = rt.alloc();
     let ports = ports(alloc, Role::P0, b"INPUT_A_p", nested(alloc)?)?;
-    for (value, kind, name) in PATHS {
+    let mut count = 0u32;
+    for row in PATHS.lines() {
+        let (value, want) = parts(row)?;
         let text = format!(in alloc; "{{\"INPUT_A_p\":{value}}}")?;
         let answer = own_inputs(alloc, text.as_bytes(), Role::P0, ports.as_slice());
-        assert_fault(&rt, &answer, Role::P0, (kind, name), value);
+        assert_row(&rt, alloc, answer, want, row)?;
+        count = count.saturating_add(1);
     }
+    assert_eq!(rt; count, ROWS[2]);
     Ok(())
 }
 

@@ -6,4 +6,8 @@ mod files;
 #[cfg(test)]
 mod inputs;
 #[cfg(test)]
+mod rows;
+#[cfg(test)]
+mod table;
+#[cfg(test)]
 mod tables;

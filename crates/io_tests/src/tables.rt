@@ -1,3 +1,5 @@
+use crate::rows::parts;
+use crate::table::{ROWS, TABLES};
 use choice_core::Table;
 use cost_table::{TableFault, table_of};
 use std::alloc::{AllocError, Global};
@@ -18,59 +20,50 @@ fn text(alloc: Global, a2b: &str, b_and: &str, rest: &str) -> Result<String, All
     )
 }
 
-/// The kind of an answer, and the name that it has or nothing.
-fn kind(answer: &Result<Table, TableFault>) -> (&str, &[u8]) {
-    match answer {
-        Ok(_) => ("Ok", b""),
-        Err(TableFault::Json) => ("Json", b""),
+/// An answer in print: Ok, or the fault with its name.
+fn printed(alloc: Global, answer: Result<Table, TableFault>) -> Result<String, Fail> {
+    let (kind, name) = match &answer {
+        Ok(_) => ("Ok", b"".as_slice()),
+        Err(TableFault::Json) => ("Json", b"".as_slice()),
         Err(TableFault::Missing(name)) => ("Missing", name.as_bytes()),
         Err(TableFault::Extra(name)) => ("Extra", name.as_bytes()),
         Err(TableFault::NotWhole(name)) => ("NotWhole", name.as_bytes()),
         Err(TableFault::TooLarge(name)) => ("TooLarge", name.as_bytes()),
-        Err(TableFault::Memory) => ("Memory", b""),
+        Err(TableFault::Memory) => ("Memory", b"".as_slice()),
+    };
+    let name = str::from_utf8(name)?;
+    Ok(format!(in alloc; "{kind} {name}")?)
+}
+
+/// The object `a2b` that a row names.
+fn object_named(name: &str) -> &'static str {
+    match name {
+        "whole" => A2B,
+        "no_32" => "{\"1\":7,\"8\":56,\"16\":112,\"64\":448}",
+        "with_7" => "{\"1\":7,\"7\":0,\"8\":56,\"16\":112,\"32\":224,\"64\":448}",
+        _ => "7",
     }
+}
+
+/// The text of a row.
+fn text_of_row(alloc: Global, row: &str) -> Result<String, Fail> {
+    let (a2b, numbers) = row.split_once(' ').ok_or("an object and numbers")?;
+    let (b_and, rest) = numbers.split_once(' ').ok_or("two numbers")?;
+    Ok(text(alloc, object_named(a2b), b_and, rest)?)
 }
 
 #[test]
 fn the_first_fault_of_a_table_is_told(rt: HostRuntime) -> Result<(), Fail> {
     let alloc = rt.alloc();
-    let no_32 = "{\"1\":7,\"8\":56,\"16\":112,\"64\":448}";
-    let with_7 = "{\"1\":7,\"7\":0,\"8\":56,\"16\":112,\"32\":224,\"64\":448}";
-    for (a2b, b_and, rest, told, name) in [
-        (no_32, "2", "3}", "Missing", "a2b.32"),
-        (A2B, "2", "-1}", "NotWhole", "y_and"),
-        (A2B, "4294967296", "3}", "TooLarge", "b_and"),
-        (A2B, "4294967295", "3}", "Ok", ""),
-        // a table's first fault, before a later one and before extra members
-        (no_32, "-1", "3}", "Missing", "a2b.32"),
-        (A2B, "-1", "3,\"aa\":0}", "NotWhole", "b_and"),
-        ("7", "2", "3}", "NotWhole", "a2b"),
-        // the least extra member, inside an object or not
-        (with_7, "2", "3,\"zz\":0}", "Extra", "a2b.7"),
-        (with_7, "2", "3,\"a2b.32\":0}", "Extra", "a2b.32"),
-        (with_7, "2", "3,\"zz\":0,\"a\":0}", "Extra", "a"),
-        (no_32, "2", "3,\"a2b.32\":0}", "Missing", "a2b.32"),
-        // the last of equal members stays
-        (A2B, "-1", "3,\"b_and\":2}", "Ok", ""),
-        (A2B, "2", "3,\"b_and\":-1}", "NotWhole", "b_and"),
-        (A2B, "18446744073709551615", "3}", "TooLarge", "b_and"),
-        (A2B, "18446744073709551616", "3}", "NotWhole", "b_and"),
-        (A2B, "1.0", "3}", "NotWhole", "b_and"),
-        (A2B, "-0", "3}", "NotWhole", "b_and"),
-        (A2B, "1e-400", "3}", "NotWhole", "b_and"),
-        (A2B, "1e400", "3}", "Json", ""),
-        (A2B, "true", "3}", "NotWhole", "b_and"),
-        (A2B, "\"2\"", "3}", "NotWhole", "b_and"),
-        (A2B, "[2]", "3}", "NotWhole", "b_and"),
-        (A2B, "02", "3}", "Json", ""),
-        (A2B, "2", "3}}", "Json", ""),
-    ] {
-        let text = text(alloc, a2b, b_and, rest)?;
-        let answer = table_of(alloc, text.as_bytes());
-        let (shown, of) = kind(&answer);
-        assert_eq!(rt; shown, told, "{text}");
-        assert_eq!(rt; of, name.as_bytes(), "{text}");
+    let mut count = 0u32;
+    for row in TABLES.lines() {
+        let (text, want) = parts(row)?;
+        let text = text_of_row(alloc, text)?;
+        let found = printed(alloc, table_of(alloc, text.as_bytes()))?;
+        assert_eq!(rt; found.as_str(), want, "{row}");
+        count = count.saturating_add(1);
     }
+    assert_eq!(rt; count, ROWS[3]);
     Ok(())
 }
 
@@ -95,17 +88,19 @@ fn a_table_has_the_numbers_of_its_text(rt: HostRuntime) -> Result<(), Fail> {
     Ok(())
 }
 
+/// Whether the answer is that the text is no JSON.
+fn is_no_json(answer: Result<Table, TableFault>) -> bool {
+    matches!(&answer, Err(TableFault::Json))
+}
+
 #[test]
 fn no_cut_text_is_a_table(rt: HostRuntime) -> Result<(), Fail> {
     let alloc = rt.alloc();
     let text = text(alloc, A2B, "2", "3}")?;
     for cut in 0..text.len() {
-        let answer = table_of(alloc, &text.as_bytes()[..cut]);
-        assert_eq!(rt; kind(&answer).0, "Json");
+        assert!(rt; is_no_json(table_of(alloc, &text.as_bytes()[..cut])));
     }
-    let answer = table_of(alloc, b"[1]");
-    assert_eq!(rt; kind(&answer).0, "Json");
-    let answer = table_of(alloc, b"{\"a_mul\xff\":1}");
-    assert_eq!(rt; kind(&answer).0, "Json");
+    assert!(rt; is_no_json(table_of(alloc, b"[1]")));
+    assert!(rt; is_no_json(table_of(alloc, b"{\"a_mul\xff\":1}")));
     Ok(())
 }

@@ -1,5 +1,5 @@
 -- What is read fits the ports, and a party's own words are those of its leaves among all.
-use Rattle.std.proofs.Common.{◌≡◌, ℕ, zero, suc, ◌+◌, List, [], ◌∷◌, ◌++◌, Bool, true, false, Ok, length, replicate, refl, sym, ap, ◌∙◌, subst, arith, rules, if◌then◌else◌}
+use Rattle.std.proofs.Common.{◌≡◌, ℕ, List, [], ◌∷◌, ◌++◌, Bool, true, false, Ok, length, replicate, refl, ap, ◌∙◌, subst, if◌then◌else◌}
 use Rattle.std.specs.List.{flat_map}
 use Rattle.std.proofs.lemmas.List.{length-replicate}
 use Rattle.hy_bits.specs.declared.scalar.Scalar.{Scalar}
@@ -7,7 +7,6 @@ use Rattle.hy_bits.specs.declared.turns.Role.{Role}
 use Rattle.hy_bits.specs.declared.turns.Role.TheVariants.{P0, P1}
 use Rattle.hy_bits.specs.declared.shape.Port.{Port}
 use Rattle.hy_bits.specs.declared.shape.Shape as S
-use Rattle.hy_bits.specs.declared.shape.Shape.TheVariants as V
 use Rattle.hy_bits.specs.declared.shape.Field as F
 use Rattle.hy_bits.specs.Shape.{leaves, leaves_of_ports, AreWordsOf, FitPorts}
 use Rattle.hy_bits.specs.Ports.{is_of, ports_of, owners, own_of}

@@ -2,6 +2,7 @@ mod Extras
 pub mod Fitting
 mod Induction
 pub mod Laws
+mod Leaves
 pub mod Making
 mod Members
 pub mod Numbers

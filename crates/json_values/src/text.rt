@@ -63,9 +63,9 @@ fn number_of(scalar: Scalar, word: u64) -> Value
     ensures { view result ≡ number (of_integer (number_of scalar word)) }
 {
     let end = words_end(scalar.width());
-    let number = i128::from(word);
-    if scalar.signed() && end / 2 <= number {
-        Value::from((number - end) as i64)
+    if scalar.signed() && end / 2 <= u128::from(word) {
+        let magnitude = end - u128::from(word);
+        Value::from((-(magnitude as i128)) as i64)
     } else {
         Value::from(word)
     }
