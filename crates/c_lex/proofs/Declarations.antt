@@ -4,10 +4,10 @@ use Rattle.c_tree.specs.declared.token.Token.{Token}
 use Rattle.c_lex.specs.Names.{is_noted}
 use Rattle.c_lex.specs.declared.typedefs.Role.{Role}
 use Rattle.c_lex.specs.declared.typedefs.Role.TheVariants.{Name, OpenBrace, CloseBrace, OpenBracket, CloseBracket, Semicolon, Typedef, Other}
-use Rattle.c_lex.specs.Typedefs.{role_of, Placed, braces_behind, brackets_behind, placed, ends, first_to, declarations, begins, is_free, or_else, last_free, declared, noted_last, named_token, named_in, named_parts, named}
-use Rattle.c_lex.specs.Scopes.{Scope, outermost, behind, scoped}
+use Rattle.c_lex.specs.Typedefs.{role_of, Placed, braces_after, brackets_after, placed, ends, first_to, declarations, begins, is_free, or_else, last_free, declared, noted_last, named_token, named_in, named_parts, named}
+use Rattle.c_lex.specs.Scopes.{Scope, outermost, following, scoped}
 
--- the name that the rest of a declaration makes a type, where a typedef may have begun, and this name may have come behind it
+-- the name that the rest of a declaration makes a type, where a typedef may have begun, and this name may have come after it
 abbrev pub found : Bool → List (List ℕ) → Option (List ℕ) → List Placed → Option (List ℕ)
 found declares types last part = or_else (if declares then last_free types part else declared types part) last
 
@@ -78,14 +78,14 @@ starts types false last first part free begin = rw begin refl
 
 -- ---- one token
 
--- what holds of all scopes of the tokens behind it
+-- what holds of all scopes of the tokens after it
 abbrev pub Later : List Token → Type 0
 Later tokens = (scope : Scope) → scoped scope tokens ≡ whole scope.types scope.declares scope.last (declarations (placed scope.braces scope.brackets tokens))
 
 abbrev pub here : Scope → Token → Role → Placed
 here scope token role = record { token = token; role = role; braces = scope.braces; brackets = scope.brackets }
 
--- a token that leaves the types and ends no declaration, and the scope behind it
+-- a token that leaves the types and ends no declaration, and the scope after it
 inside : (scope after : Scope) (token : Token) (role : Role) (tokens : List Token) → after.types ≡ scope.types → Later tokens
     → ((part : List Placed) → found scope.declares scope.types scope.last (here scope token role ∷ part) ≡ found after.declares scope.types after.last part)
     → named_token scope.types token ∷ scoped after tokens ≡ whole scope.types scope.declares scope.last (first_to (here scope token role) (declarations (placed after.braces after.brackets tokens)))
@@ -135,8 +135,8 @@ typedef-case scope token tokens later true z = inside scope (record scope { decl
 typedef-case scope token tokens later false z = inside scope scope token Typedef tokens refl later (λ part. skips scope.types scope.declares scope.last (here scope token Typedef) part refl z)
 
 step : (scope : Scope) (token : Token) (tokens : List Token) (role : Role) → Later tokens
-    → named_token scope.types token ∷ scoped (behind scope role token) tokens
-    ≡ whole scope.types scope.declares scope.last (if ends role scope.braces then (here scope token role ∷ []) ∷ declarations (placed (braces_behind role scope.braces) (brackets_behind role scope.brackets) tokens) else first_to (here scope token role) (declarations (placed (braces_behind role scope.braces) (brackets_behind role scope.brackets) tokens)))
+    → named_token scope.types token ∷ scoped (following scope role token) tokens
+    ≡ whole scope.types scope.declares scope.last (if ends role scope.braces then (here scope token role ∷ []) ∷ declarations (placed (braces_after role scope.braces) (brackets_after role scope.brackets) tokens) else first_to (here scope token role) (declarations (placed (braces_after role scope.braces) (brackets_after role scope.brackets) tokens)))
 step scope token tokens Name later = name-case scope token tokens later (is_noted scope.types token.text) scope.declares (scope.braces == 0) (scope.brackets == 0) refl refl refl refl
 step scope token tokens OpenBrace later = inside scope (record scope { braces = scope.braces + 1 }) token OpenBrace tokens refl later (λ part. skips scope.types scope.declares scope.last (here scope token OpenBrace) part refl refl)
 step scope token tokens CloseBrace later = inside scope (record scope { braces = scope.braces - 1 }) token CloseBrace tokens refl later (λ part. skips scope.types scope.declares scope.last (here scope token CloseBrace) part refl refl)

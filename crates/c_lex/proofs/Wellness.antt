@@ -20,7 +20,7 @@ use Rattle.c_lex.specs.Lines.{first_with, lines_of}
 use Rattle.c_lex.specs.Macros.{moved, itself_or, stands_for, ahead, replaced, names_of, first_fault}
 use Rattle.c_lex.specs.Directives.{Read, nothing_read, begins, is_header, opens_at_once, no_directive, with_list, defined, define, with_bound, with_number, bound, unless_fault, pragma, directive, with_tokens, plain, step, and_then, steps}
 use Rattle.c_lex.specs.Typedefs.{role_of, named}
-use Rattle.c_lex.specs.Scopes.{Scope, outermost, is_type, behind, scoped}
+use Rattle.c_lex.specs.Scopes.{Scope, outermost, is_type, following, scoped}
 use Rattle.c_lex.proofs.Declarations.{named-scoped}
 
 all_append : {A : Type 0} (p : A → Bool) (xs ys : List A) → list_all p xs ≡ true → list_all p ys ≡ true → list_all p (xs ++ ys) ≡ true
@@ -212,14 +212,14 @@ typed-inner token false name inner = inner
 
 scoped-inner : (scope : Scope) (tokens : List Token) → all_inner tokens ≡ true → all_inner (scoped scope tokens) ≡ true
 scoped-inner scope [] all = refl
-scoped-inner scope (token ∷ rest) all = and_both _ _ (typed-inner token (is_type scope token) (λ h. and_left _ _ h) (and_left _ _ all)) (scoped-inner (behind scope (role_of token) token) rest (and_right _ _ all))
+scoped-inner scope (token ∷ rest) all = and_both _ _ (typed-inner token (is_type scope token) (λ h. and_left _ _ h) (and_left _ _ all)) (scoped-inner (following scope (role_of token) token) rest (and_right _ _ all))
 
 named-inner : (tokens : List Token) → all_inner tokens ≡ true → all_inner (named tokens) ≡ true
 named-inner tokens all = ap all_inner (named-scoped tokens) ∙ scoped-inner outermost tokens all
 
 scoped-length : (scope : Scope) (tokens : List Token) → length (scoped scope tokens) ≡ length tokens
 scoped-length scope [] = refl
-scoped-length scope (token ∷ rest) = ap suc (scoped-length (behind scope (role_of token) token) rest)
+scoped-length scope (token ∷ rest) = ap suc (scoped-length (following scope (role_of token) token) rest)
 
 named-length : (tokens : List Token) → length (named tokens) ≡ length tokens
 named-length tokens = ap length (named-scoped tokens) ∙ scoped-length outermost tokens

@@ -69,7 +69,7 @@ is_header (piece.BadLiteral at ∷ rest) = false
 
 -- ---- #define
 
--- a ( stands directly behind the name
+-- a ( stands directly after the name
 abbrev pub opens_at_once : Token → List Piece → Bool
 opens_at_once name [] = false
 opens_at_once name (piece.Line ∷ rest) = false
@@ -130,7 +130,7 @@ pragma read at line = if begins (codes "bound") line then bound read at (drop 1 
 
 -- ---- lines
 
--- a line that begins with a #, from behind it
+-- a line that begins with a #, from after it
 abbrev pub directive : Read → Place → List Piece → Result Read LexFault
 directive read at [] = Ok read
 directive read at (first ∷ rest) =

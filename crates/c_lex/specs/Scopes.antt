@@ -12,7 +12,7 @@ pub record Scope : Type 0 where
   pub brackets : ℕ
   -- a typedef outside all braces has no end yet
   pub declares : Bool
-  -- the last name behind it that stands outside braces and brackets
+  -- the last name after it that stands outside braces and brackets
   pub last : Option (List ℕ)
   -- the names that the typedefs with an end have declared
   pub types : List (List ℕ)
@@ -20,27 +20,27 @@ pub record Scope : Type 0 where
 abbrev pub outermost : Scope
 outermost = record { braces = 0; brackets = 0; declares = false; last = None; types = [] }
 
--- a name that is no type's stands behind a typedef, outside braces and brackets
-abbrev pub behind_name : Scope → List ℕ → Scope
-behind_name scope name = if scope.declares && scope.braces == 0 && scope.brackets == 0 then record scope { last = Some name } else scope
+-- a name that is no type's stands after a typedef, outside braces and brackets
+abbrev pub after_name : Scope → List ℕ → Scope
+after_name scope name = if scope.declares && scope.braces == 0 && scope.brackets == 0 then record scope { last = Some name } else scope
 
 -- a typedef that has begun ends
-abbrev pub behind_semicolon : Scope → Scope
-behind_semicolon scope = if scope.braces == 0 then record { braces = scope.braces; brackets = scope.brackets; declares = false; last = None; types = noted_last scope.types scope.last } else scope
+abbrev pub after_semicolon : Scope → Scope
+after_semicolon scope = if scope.braces == 0 then record { braces = scope.braces; brackets = scope.brackets; declares = false; last = None; types = noted_last scope.types scope.last } else scope
 
-abbrev pub behind_typedef : Scope → Scope
-behind_typedef scope = if scope.braces == 0 then record scope { declares = true } else scope
+abbrev pub after_typedef : Scope → Scope
+after_typedef scope = if scope.braces == 0 then record scope { declares = true } else scope
 
 -- what the tokens up to and with this one say
-abbrev pub behind : Scope → Role → Token → Scope
-behind scope Name token = if is_noted scope.types token.text then scope else behind_name scope token.text
-behind scope OpenBrace token = record scope { braces = scope.braces + 1 }
-behind scope CloseBrace token = record scope { braces = scope.braces - 1 }
-behind scope OpenBracket token = record scope { brackets = scope.brackets + 1 }
-behind scope CloseBracket token = record scope { brackets = scope.brackets - 1 }
-behind scope Semicolon token = behind_semicolon scope
-behind scope Typedef token = behind_typedef scope
-behind scope Other token = scope
+abbrev pub following : Scope → Role → Token → Scope
+following scope Name token = if is_noted scope.types token.text then scope else after_name scope token.text
+following scope OpenBrace token = record scope { braces = scope.braces + 1 }
+following scope CloseBrace token = record scope { braces = scope.braces - 1 }
+following scope OpenBracket token = record scope { brackets = scope.brackets + 1 }
+following scope CloseBracket token = record scope { brackets = scope.brackets - 1 }
+following scope Semicolon token = after_semicolon scope
+following scope Typedef token = after_typedef scope
+following scope Other token = scope
 
 abbrev pub is_type : Scope → Token → Bool
 is_type scope token = is_name_kind token.kind && is_noted scope.types token.text
@@ -48,4 +48,4 @@ is_type scope token = is_name_kind token.kind && is_noted scope.types token.text
 -- the tokens from a place on, with the names of types
 abbrev pub scoped : Scope → List Token → List Token
 scoped scope [] = []
-scoped scope (token ∷ rest) = named_token scope.types token ∷ scoped (behind scope (role_of token) token) rest
+scoped scope (token ∷ rest) = named_token scope.types token ∷ scoped (following scope (role_of token) token) rest

@@ -1,5 +1,5 @@
 -- A reference lexer, its part on types: which names are names of types (C11 6.7.8). Tokens are cut into declarations; each that has a typedef adds a name to the types
--- that hold behind it.
+-- that hold after it.
 use Rattle.std.specs.Prelude.{ℕ, ◌+◌, ◌-◌, Bool, false, not, ◌&&◌, ◌==◌, List, [], ◌∷◌, ◌++◌, Option, None, Some, if◌then◌else◌, codes}
 use Rattle.std.specs.Str.{bytes_eq}
 use Rattle.c_tree.specs.declared.token.Token.{Token}
@@ -28,30 +28,30 @@ pub record Placed : Type 0 where
   pub braces : ℕ
   pub brackets : ℕ
 
-abbrev pub braces_behind : Role → ℕ → ℕ
-braces_behind Name open_before = open_before
-braces_behind OpenBrace open_before = open_before + 1
-braces_behind CloseBrace open_before = open_before - 1
-braces_behind OpenBracket open_before = open_before
-braces_behind CloseBracket open_before = open_before
-braces_behind Semicolon open_before = open_before
-braces_behind Typedef open_before = open_before
-braces_behind Other open_before = open_before
+abbrev pub braces_after : Role → ℕ → ℕ
+braces_after Name open_before = open_before
+braces_after OpenBrace open_before = open_before + 1
+braces_after CloseBrace open_before = open_before - 1
+braces_after OpenBracket open_before = open_before
+braces_after CloseBracket open_before = open_before
+braces_after Semicolon open_before = open_before
+braces_after Typedef open_before = open_before
+braces_after Other open_before = open_before
 
-abbrev pub brackets_behind : Role → ℕ → ℕ
-brackets_behind Name open_before = open_before
-brackets_behind OpenBrace open_before = open_before
-brackets_behind CloseBrace open_before = open_before
-brackets_behind OpenBracket open_before = open_before + 1
-brackets_behind CloseBracket open_before = open_before - 1
-brackets_behind Semicolon open_before = open_before
-brackets_behind Typedef open_before = open_before
-brackets_behind Other open_before = open_before
+abbrev pub brackets_after : Role → ℕ → ℕ
+brackets_after Name open_before = open_before
+brackets_after OpenBrace open_before = open_before
+brackets_after CloseBrace open_before = open_before
+brackets_after OpenBracket open_before = open_before + 1
+brackets_after CloseBracket open_before = open_before - 1
+brackets_after Semicolon open_before = open_before
+brackets_after Typedef open_before = open_before
+brackets_after Other open_before = open_before
 
 abbrev pub placed : ℕ → ℕ → List Token → List Placed
 placed braces brackets [] = []
 placed braces brackets (token ∷ rest) =
-    record { token = token; role = role_of token; braces = braces; brackets = brackets } ∷ placed (braces_behind (role_of token) braces) (brackets_behind (role_of token) brackets) rest
+    record { token = token; role = role_of token; braces = braces; brackets = brackets } ∷ placed (braces_after (role_of token) braces) (brackets_after (role_of token) brackets) rest
 
 -- ---- declarations
 
@@ -70,7 +70,7 @@ abbrev pub first_to : Placed → List (List Placed) → List (List Placed)
 first_to first [] = (first ∷ []) ∷ []
 first_to first (part ∷ parts) = (first ∷ part) ∷ parts
 
--- the tokens up to and with each ; outside braces, and those behind the last
+-- the tokens up to and with each ; outside braces, and those after the last
 abbrev pub declarations : List Placed → List (List Placed)
 declarations [] = [] ∷ []
 declarations (first ∷ rest) = if ends first.role first.braces then (first ∷ []) ∷ declarations rest else first_to first (declarations rest)
@@ -106,7 +106,7 @@ abbrev pub last_free : List (List ℕ) → List Placed → Option (List ℕ)
 last_free types [] = None
 last_free types (first ∷ rest) = or_else (last_free types rest) (if is_free types first.role first then Some first.token.text else None)
 
--- the name that a declaration makes a type: the last behind its typedef
+-- the name that a declaration makes a type: the last after its typedef
 abbrev pub declared : List (List ℕ) → List Placed → Option (List ℕ)
 declared types [] = None
 declared types (first ∷ rest) = if begins first.role first.braces then last_free types rest else declared types rest

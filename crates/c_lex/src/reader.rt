@@ -4,7 +4,7 @@ ghost use Rattle.c_lex.specs.Names.{is_noted, noted_all, list_of};
 ghost use Rattle.c_lex.specs.Macros.{moved, stands_for, replaced, names_of, first_fault as first_fault_of};
 ghost use Rattle.c_lex.specs.Directives.{nothing_read, begins as begins_with, spells as spells_text, is_header as is_a_header, opens_at_once as opens_directly, define as define_by, defined as defined_by, bound as bound_by, pragma as pragma_by, directive as directive_by, plain as plain_by, with_bound as with_bound_of, unless_fault as unless_fault_of, step};
 ghost use Rattle.c_lex.specs.Answer.{Gives};
-ghost use Rattle.c_lex.specs.Inner.{read_of, put_behind, filled};
+ghost use Rattle.c_lex.specs.Inner.{read_of, put_after, filled};
 
 use crate::fault::{LexFault, LexKind};
 use crate::macros::Macros;
@@ -50,7 +50,7 @@ impl Reader {
         }
     }
 
-    /// Behind one more line.
+    /// After one more line.
     pub fn line(self, alloc: Global, line: &[Piece]) -> Result<Reader, LexFault>
         ensures { Gives read_of result (step (read_of self) line.now) }
     {
@@ -61,7 +61,7 @@ impl Reader {
         }
     }
 
-    /// Behind a line that is no directive.
+    /// After a line that is no directive.
     fn plain(self, alloc: Global, line: &[Piece]) -> Result<Reader, LexFault>
         ensures { Gives read_of result (plain_by (read_of self) line.now) }
     {
@@ -81,7 +81,7 @@ impl Reader {
         })
     }
 
-    /// Behind a line that begins with a `#` at this place, from behind it.
+    /// After a line that begins with a `#` at this place, from after it.
     fn directive(self, alloc: Global, place: Place, line: &[Piece]) -> Result<Reader, LexFault>
         ensures { Gives read_of result (directive_by (read_of self) place line.now) }
     {
@@ -103,7 +103,7 @@ impl Reader {
         }
     }
 
-    /// Behind a `#define`, from behind that word.
+    /// After a `#define`, from after that word.
     fn define(self, alloc: Global, place: Place, line: &[Piece]) -> Result<Reader, LexFault>
         ensures { Gives read_of result (define_by (read_of self) place line.now) }
     {
@@ -118,7 +118,7 @@ impl Reader {
         }
     }
 
-    /// Behind the definition of a name that has no list yet.
+    /// After the definition of a name that has no list yet.
     fn defined(self, alloc: Global, name: &Token, list: &[Piece]) -> Result<Reader, LexFault>
         requires { list_of self.macros name.now.text ≡ None }
         ensures { Gives read_of result (defined_by (read_of self) name.now list.now) }
@@ -143,7 +143,7 @@ impl Reader {
         })
     }
 
-    /// Behind a `#pragma`, from behind that word.
+    /// After a `#pragma`, from after that word.
     fn pragma(self, alloc: Global, place: Place, line: &[Piece]) -> Result<Reader, LexFault>
         ensures { Gives read_of result (pragma_by (read_of self) place line.now) }
     {
@@ -164,7 +164,7 @@ impl Reader {
         }
     }
 
-    /// Behind a `#pragma bound`, from behind these words.
+    /// After a `#pragma bound`, from after these words.
     fn bound(self, alloc: Global, place: Place, line: &[Piece]) -> Result<Reader, LexFault>
         ensures { Gives read_of result (bound_by (read_of self) place line.now) }
     {
@@ -182,7 +182,7 @@ impl Reader {
         }
     }
 
-    /// Behind a bound of this number.
+    /// After a bound of this number.
     fn with_bound(
         self,
         alloc: Global,
@@ -217,7 +217,7 @@ impl Reader {
     }
 }
 
-/// Puts the tokens that the pieces of a line stand for behind others, and tells the room that is left. It takes time
+/// Puts the tokens that the pieces of a line stand for after others, and tells the room that is left. It takes time
 /// linear in the pieces and in the tokens made.
 fn replace(
     alloc: Global,
@@ -243,7 +243,7 @@ fn replace(
     Ok((out, room))
 }
 
-/// Puts the tokens that a token stands for behind others, and tells the room that is left.
+/// Puts the tokens that a token stands for after others, and tells the room that is left.
 fn put(
     alloc: Global,
     macros: &Macros,
@@ -251,7 +251,7 @@ fn put(
     out: &mut Vec<Token>,
     room: usize,
 ) -> Result<usize, LexFault>
-    ensures { Gives (λ left. (out.new.items, left)) result (put_behind out.old.items room token.now.place (stands_for macros.now token.now)) }
+    ensures { Gives (λ left. (out.new.items, left)) result (put_after out.old.items room token.now.place (stands_for macros.now token.now)) }
 {
     if token.kind == TokenKind::Name {
         if let Some(list) = macros.list_of(token.text.as_bytes()) {
@@ -265,7 +265,7 @@ fn put(
     Ok(room - 1)
 }
 
-/// Puts a macro's list, used at this place, behind others, and tells the room that is left.
+/// Puts a macro's list, used at this place, after others, and tells the room that is left.
 fn put_list(
     alloc: Global,
     list: &[Token],
@@ -273,7 +273,7 @@ fn put_list(
     out: &mut Vec<Token>,
     room: usize,
 ) -> Result<usize, LexFault>
-    ensures { Gives (λ left. (out.new.items, left)) result (put_behind out.old.items room place (moved place list.now)) }
+    ensures { Gives (λ left. (out.new.items, left)) result (put_after out.old.items room place (moved place list.now)) }
 {
     if room < list.len() {
         return Err(LexFault::new(LexKind::Tokens, place));
@@ -282,7 +282,7 @@ fn put_list(
     Ok(room - list.len())
 }
 
-/// Copies a list of tokens behind others, all to this place.
+/// Copies a list of tokens after others, all to this place.
 fn copy_list(
     alloc: Global,
     list: &[Token],
@@ -368,7 +368,7 @@ fn begins(line: &[Piece], text: &[u8]) -> bool
     }
 }
 
-/// Whether a `(` stands directly behind a name.
+/// Whether a `(` stands directly after a name.
 fn opens_at_once(name: &Token, list: &[Piece]) -> bool
     ensures { result ≡ opens_directly name.now list.now }
 {

@@ -50,7 +50,7 @@ pub fn name_types(alloc: Global, tokens: &mut [Token]) -> Result<(), Memory>
     let mut scope = Scope::new(alloc);
     for token in tokens.iter_mut() {
         let is_type = scope.is_type(token);
-        scope = scope.behind(alloc, token)?;
+        scope = scope.following(alloc, token)?;
         if is_type {
             token.kind = TokenKind::TypeName;
         }
@@ -65,7 +65,7 @@ pub struct Scope {
     brackets: usize,
     /// A `typedef` outside all braces has no end yet.
     declares: bool,
-    /// The last name behind it outside braces and brackets.
+    /// The last name after it outside braces and brackets.
     last: Option<Vec<u8>>,
     /// The names that are types.
     types: Names,
@@ -74,7 +74,7 @@ pub struct Scope {
 impl Scope {
     ghost use Rattle.std.specs.Prelude.{◌≡◌, ◌+◌, ◌<◌, ◌≤◌, ◌^◌, IfOk};
     ghost use Rattle.c_lex.specs.Typedefs.{role_of};
-    ghost use Rattle.c_lex.specs.Scopes.{outermost, is_type as is_a_type, behind as behind_token, behind_name as behind_the_name, behind_semicolon as behind_a_semicolon, behind_typedef as behind_a_typedef};
+    ghost use Rattle.c_lex.specs.Scopes.{outermost, is_type as is_a_type, following as after_token, after_name as after_the_name, after_semicolon as after_a_semicolon, after_typedef as after_a_typedef};
     ghost use Rattle.c_lex.specs.Views.{scope_of};
 
     fn new(alloc: Global) -> Scope
@@ -97,10 +97,10 @@ impl Scope {
     }
 
     /// What the tokens up to and with this one say.
-    fn behind(mut self, alloc: Global, token: &Token) -> Result<Scope, Memory>
+    fn following(mut self, alloc: Global, token: &Token) -> Result<Scope, Memory>
         requires braces { self.braces < 2 ^ 63 }
         requires brackets { self.brackets < 2 ^ 63 }
-        ensures scope { IfOk result (λ scope. scope_of scope ≡ behind_token (scope_of self) (role_of token.now) token.now) }
+        ensures scope { IfOk result (λ scope. scope_of scope ≡ after_token (scope_of self) (role_of token.now) token.now) }
         ensures braces { IfOk result (λ scope. scope.braces ≤ self.braces + 1) }
         ensures brackets { IfOk result (λ scope. scope.brackets ≤ self.brackets + 1) }
     {
@@ -109,7 +109,7 @@ impl Scope {
                 if self.types.has(token.text.as_bytes()) {
                     Ok(self)
                 } else {
-                    self.behind_name(alloc, token.text.as_bytes())
+                    self.after_name(alloc, token.text.as_bytes())
                 }
             }
             Role::OpenBrace => {
@@ -128,15 +128,15 @@ impl Scope {
                 self.brackets = self.brackets.saturating_sub(1);
                 Ok(self)
             }
-            Role::Semicolon => self.behind_semicolon(alloc),
-            Role::Typedef => Ok(self.behind_typedef()),
+            Role::Semicolon => self.after_semicolon(alloc),
+            Role::Typedef => Ok(self.after_typedef()),
             Role::Other => Ok(self),
         }
     }
 
-    /// Behind a name that is no type's.
-    fn behind_name(mut self, alloc: Global, name: &[u8]) -> Result<Scope, Memory>
-        ensures scope { IfOk result (λ scope. scope_of scope ≡ behind_the_name (scope_of self) name.now) }
+    /// After a name that is no type's.
+    fn after_name(mut self, alloc: Global, name: &[u8]) -> Result<Scope, Memory>
+        ensures scope { IfOk result (λ scope. scope_of scope ≡ after_the_name (scope_of self) name.now) }
         ensures braces { IfOk result (λ scope. scope.braces ≡ self.braces) }
         ensures brackets { IfOk result (λ scope. scope.brackets ≡ self.brackets) }
     {
@@ -146,9 +146,9 @@ impl Scope {
         Ok(self)
     }
 
-    /// Behind a `;`.
-    fn behind_semicolon(self, alloc: Global) -> Result<Scope, Memory>
-        ensures scope { IfOk result (λ scope. scope_of scope ≡ behind_a_semicolon (scope_of self)) }
+    /// After a `;`.
+    fn after_semicolon(self, alloc: Global) -> Result<Scope, Memory>
+        ensures scope { IfOk result (λ scope. scope_of scope ≡ after_a_semicolon (scope_of self)) }
         ensures braces { IfOk result (λ scope. scope.braces ≡ self.braces) }
         ensures brackets { IfOk result (λ scope. scope.brackets ≡ self.brackets) }
     {
@@ -174,9 +174,9 @@ impl Scope {
         })
     }
 
-    /// Behind a `typedef`.
-    fn behind_typedef(mut self) -> Scope
-        ensures scope { scope_of result ≡ behind_a_typedef (scope_of self) }
+    /// After a `typedef`.
+    fn after_typedef(mut self) -> Scope
+        ensures scope { scope_of result ≡ after_a_typedef (scope_of self) }
         ensures braces { result.braces ≡ self.braces }
         ensures brackets { result.brackets ≡ self.brackets }
     {

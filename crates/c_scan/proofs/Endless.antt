@@ -1,18 +1,18 @@
--- Where no string ends behind one quote, none ends behind a later one of its line.
+-- Where no string ends after one quote, none ends after a later one of its line.
 use Rattle.std.proofs.Common.{◌≡◌, ℕ, zero, suc, ◌+◌, ◌-◌, ◌<◌, ◌≤◌, List, [], ◌∷◌, drop, take, length, get_or, Bool, true, false, not, ◌&&◌, ◌==◌, cond, if◌then◌else◌, Option, None, Some, refl, subst, arith, ◌∙◌, ap, sym}
 use Rattle.std.specs.List.{prefix_len}
 use Rattle.std.specs.Option.{option_map}
 use Rattle.std.proofs.lemmas.List.{take_rest, get_or-drop, drop-drop}
 use Rattle.c_scan.specs.Lengths.{string_length, AreEndless}
 
--- what a byte tells, before which no newline stands and behind which no string ends
+-- what a byte tells, before which no newline stands and after which no string ends
 step : (newline closes : Bool) (n at : ℕ) (rest : Option ℕ) → (if newline then None else if closes then Some 1 else option_map suc rest) ≡ None → at < cond (not newline) (1 + n) 0 → (rest ≡ None) × (at ≤ n)
 step true closes n at rest endless within = absurd (omega arith)
 step false true n at rest endless within = absurd (cc)
 step false false n at None endless within = (refl, omega arith)
 step false false n at (Some count) endless within = absurd (cc)
 
--- no string ends behind a quote that stands before the line's end, where none ends behind an earlier one
+-- no string ends after a quote that stands before the line's end, where none ends after an earlier one
 pub later : (taken : Bool) (text : List ℕ) (at : ℕ) → string_length taken text ≡ None → at < prefix_len (λ b. not (b == 10)) text → get_or text at 0 ≡ 34 → string_length false (drop (suc at) text) ≡ None
 later taken [] at endless within quote = absurd (omega arith)
 later taken (byte ∷ rest) zero endless within quote =
@@ -40,8 +40,8 @@ endless_at text index count endless at from within quote =
     let place : index + (at - index) ≡ at = omega arith in
     let quoted : get_or (drop index text) (at - index) 0 ≡ 34 = get_or-drop index text (at - index) 0 ∙ (ap (λ i. get_or text i 0) place ∙ quote) in
     let further : index + suc (at - index) ≡ suc at = omega arith in
-    let behind : drop (suc (at - index)) (drop index text) ≡ drop (suc at) text = drop-drop (suc (at - index)) index text ∙ ap (λ i. drop i text) further in
-    sym (ap (string_length false) behind) ∙ whole (at - index) (omega arith) (omega arith) quoted
+    let following : drop (suc (at - index)) (drop index text) ≡ drop (suc at) text = drop-drop (suc (at - index)) index text ∙ ap (λ i. drop i text) further in
+    sym (ap (string_length false) following) ∙ whole (at - index) (omega arith) (omega arith) quoted
 
 -- what is known of a text's later places is known of the first place of its rest
 pub endless_here : (text : List ℕ) (index to : ℕ) → index < to → AreEndless text index to → AreEndless (take (length text - index) (drop index text)) 0 1
@@ -51,5 +51,5 @@ endless_here text index to within endless =
     let place : index ≡ index + at = omega arith in
     let further : index + suc at ≡ suc index = omega arith in
     let quoted : get_or text index 0 ≡ 34 = ap (λ i. get_or text i 0) place ∙ (sym (get_or-drop index text at 0) ∙ quote) in
-    let behind : drop (suc at) (drop index text) ≡ drop (suc index) text = drop-drop (suc at) index text ∙ ap (λ i. drop i text) further in
-    ap (string_length false) behind ∙ endless index (omega arith) within quoted)
+    let following : drop (suc at) (drop index text) ≡ drop (suc index) text = drop-drop (suc at) index text ∙ ap (λ i. drop i text) further in
+    ap (string_length false) following ∙ endless index (omega arith) within quoted)

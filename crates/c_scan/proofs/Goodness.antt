@@ -18,7 +18,7 @@ use Rattle.c_scan.specs.declared.piece.Front.TheVariants as front
 use Rattle.c_scan.specs.declared.piece.Piece.TheVariants as piece
 use Rattle.c_scan.specs.Spelled.{is_blank, begins_number}
 use Rattle.c_scan.specs.Lengths.{string_length, number_length, block_length, mark_length, constant_front, quoted_front, marked_front, closed_front, front_at}
-use Rattle.c_scan.specs.Pieces.{after, further, is_accepted, plain_token, number_piece, string_piece, front_of, Cut, behind, cut_from, cut_of}
+use Rattle.c_scan.specs.Pieces.{after, further, is_accepted, plain_token, number_piece, string_piece, front_of, Cut, following, cut_from, cut_of}
 use Rattle.c_scan.proofs.Longest.{all-prefix, front_of-is}
 use Rattle.c_scan.specs.Good.{is_good}
 use Rattle.c_scan.proofs.Bools.{and_both, on_branches}
@@ -121,7 +121,7 @@ string_piece-good at string =
 
 string-good : (at : Place) (text : List ℕ) (found : Option ℕ) → front_is_good (quoted_front at text found) ≡ true
 string-good at text None = refl
-string-good at text (Some behind) = string_piece-good at (take (1 + behind) text)
+string-good at text (Some following) = string_piece-good at (take (1 + following) text)
 
 mark-good : (at : Place) (text : List ℕ) (count : ℕ) → front_is_good (marked_front at text count) ≡ true
 mark-good at text zero = refl
@@ -129,7 +129,7 @@ mark-good at text (suc n) = refl
 
 block-good : (found : Option ℕ) → front_is_good (closed_front found) ≡ true
 block-good None = refl
-block-good (Some behind) = refl
+block-good (Some following) = refl
 
 on_good : (test : Bool) (x y : Front) → (test ≡ true → front_is_good x ≡ true) → (test ≡ false → front_is_good y ≡ true) → front_is_good (if test then x else y) ≡ true
 on_good true x y p q = p refl
@@ -153,15 +153,15 @@ front-good at text = ap front_is_good (front_of-is at text) ∙ at-good at text
 
 -- ---- whole texts
 
-behind-good : (at : Place) (begins : Front) (rest : ℕ → Cut) → front_is_good begins ≡ true → ((inside : ℕ) → list_all is_good (rest inside).pieces ≡ true) → list_all is_good (behind at begins rest).pieces ≡ true
-behind-good at (front.Blank count) rest good each = each (count - 1)
-behind-good at (front.Piece piece count) rest good each = and_both _ _ good (each (count - 1))
-behind-good at front.Unclosed rest good each = refl
+following-good : (at : Place) (begins : Front) (rest : ℕ → Cut) → front_is_good begins ≡ true → ((inside : ℕ) → list_all is_good (rest inside).pieces ≡ true) → list_all is_good (following at begins rest).pieces ≡ true
+following-good at (front.Blank count) rest good each = each (count - 1)
+following-good at (front.Piece piece count) rest good each = and_both _ _ good (each (count - 1))
+following-good at front.Unclosed rest good each = refl
 
 from-good : (inside : ℕ) (at : Place) (text : List ℕ) → list_all is_good (cut_from inside at text).pieces ≡ true
 from-good inside at [] = refl
 from-good (suc inside) at (byte ∷ rest) = from-good inside (after at byte) rest
-from-good zero at (byte ∷ rest) = behind-good at (front_of at (byte ∷ rest)) _ (front-good at (byte ∷ rest)) (λ inside. from-good inside (after at byte) rest)
+from-good zero at (byte ∷ rest) = following-good at (front_of at (byte ∷ rest)) _ (front-good at (byte ∷ rest)) (λ inside. from-good inside (after at byte) rest)
 
 pub cut-good : (text : List ℕ) → list_all is_good (cut_of text).pieces ≡ true
 cut-good text = from-good 0 _ text

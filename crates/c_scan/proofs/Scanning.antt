@@ -5,7 +5,7 @@ use Rattle.std.proofs.lemmas.List.{take_rest}
 use Rattle.c_tree.specs.declared.token.Place.{Place}
 use Rattle.c_scan.specs.declared.piece.Piece.{Piece}
 use Rattle.c_scan.specs.declared.piece.Front.TheVariants as front
-use Rattle.c_scan.specs.Pieces.{after, front_of, behind, before, Cut, cut_from}
+use Rattle.c_scan.specs.Pieces.{after, front_of, following, before, Cut, cut_from}
 
 -- these pieces before the others
 abbrev pub joined : List Piece → Cut → Cut
@@ -14,7 +14,7 @@ joined pieces cut = record { pieces = pieces ++ cut.pieces; unclosed = cut.unclo
 pub joined-before : (pieces : List Piece) (piece : Piece) (cut : Cut) → joined pieces (before piece cut) ≡ joined (pieces ++ piece ∷ []) cut
 joined-before pieces piece cut = ap (λ ps. let made : Cut = record { pieces = ps; unclosed = cut.unclosed; end = cut.end } in made) (sym (append_assoc pieces (piece ∷ []) cut.pieces))
 
--- the rest of a text is its next byte and the rest behind it
+-- the rest of a text is its next byte and the rest after it
 pub rest-cons : (text : List ℕ) (index : ℕ) → index < length text → drop index text ≡ get_or text index 0 ∷ drop (index + 1) text
 rest-cons text index within = rw add-one (drop-cons text index 0 within)
 
@@ -30,7 +30,7 @@ near_either : (bound : ℕ) (test : Bool) (x y : Place) → Near bound x → Nea
 near_either bound true x y p q = p
 near_either bound false x y p q = q
 
--- the place behind a byte is at most one line and one column further
+-- the place after a byte is at most one line and one column further
 pub after-near : (at : Place) (byte bound : ℕ) → Near bound at → Near (bound + 1) (after at byte)
 after-near at byte bound near = near_either (bound + 1) (byte == 10) _ _ (omega arith, omega arith) (omega arith, omega arith)
 
@@ -41,13 +41,13 @@ scan_inside whole pieces (suc inside) at byte rest some so_far = let e : suc ins
 
 -- what a byte does that begins white space
 pub scan_blank : (whole : Cut) (pieces : List Piece) (inside : ℕ) (at : Place) (byte : ℕ) (rest : List ℕ) (count : ℕ) → inside ≤ 0 → front_of at (byte ∷ rest) ≡ front.Blank count → whole ≡ joined pieces (cut_from inside at (byte ∷ rest)) → whole ≡ joined pieces (cut_from (count - 1) (after at byte) rest)
-scan_blank whole pieces zero at byte rest count outside is so_far = so_far ∙ ap (λ f. joined pieces (behind at f (λ inside. cut_from inside (after at byte) rest))) is
+scan_blank whole pieces zero at byte rest count outside is so_far = so_far ∙ ap (λ f. joined pieces (following at f (λ inside. cut_from inside (after at byte) rest))) is
 scan_blank whole pieces (suc inside) at byte rest count outside is so_far = absurd (omega (arith, outside))
 
 -- what a byte does that begins a piece
 pub scan_piece : (whole : Cut) (pieces : List Piece) (inside : ℕ) (at : Place) (byte : ℕ) (rest : List ℕ) (piece : Piece) (count : ℕ) → inside ≤ 0 → front_of at (byte ∷ rest) ≡ front.Piece piece count → whole ≡ joined pieces (cut_from inside at (byte ∷ rest)) → whole ≡ joined (pieces ++ piece ∷ []) (cut_from (count - 1) (after at byte) rest)
 scan_piece whole pieces zero at byte rest piece count outside is so_far =
-    so_far ∙ ap (λ f. joined pieces (behind at f (λ inside. cut_from inside (after at byte) rest))) is ∙ joined-before pieces piece (cut_from (count - 1) (after at byte) rest)
+    so_far ∙ ap (λ f. joined pieces (following at f (λ inside. cut_from inside (after at byte) rest))) is ∙ joined-before pieces piece (cut_from (count - 1) (after at byte) rest)
 scan_piece whole pieces (suc inside) at byte rest piece count outside is so_far = absurd (omega (arith, outside))
 
 nil_right : (pieces : List Piece) → pieces ++ [] ≡ pieces
@@ -57,5 +57,5 @@ nil_right (piece ∷ pieces) = ap (λ ps. piece ∷ ps) (nil_right pieces)
 -- what a byte does that begins a comment that doesn't end
 pub scan_unclosed : (whole : Cut) (pieces : List Piece) (inside : ℕ) (at : Place) (byte : ℕ) (rest : List ℕ) → inside ≤ 0 → front_of at (byte ∷ rest) ≡ front.Unclosed → whole ≡ joined pieces (cut_from inside at (byte ∷ rest)) → record { pieces = pieces; unclosed = Some at; end = at } ≡ whole
 scan_unclosed whole pieces zero at byte rest outside is so_far =
-    sym (so_far ∙ ap (λ f. joined pieces (behind at f (λ inside. cut_from inside (after at byte) rest))) is ∙ ap (λ ps. let made : Cut = record { pieces = ps; unclosed = Some at; end = at } in made) (nil_right pieces))
+    sym (so_far ∙ ap (λ f. joined pieces (following at f (λ inside. cut_from inside (after at byte) rest))) is ∙ ap (λ ps. let made : Cut = record { pieces = ps; unclosed = Some at; end = at } in made) (nil_right pieces))
 scan_unclosed whole pieces (suc inside) at byte rest outside is so_far = absurd (omega (arith, outside))

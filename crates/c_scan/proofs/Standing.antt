@@ -11,8 +11,8 @@ use Rattle.c_scan.specs.declared.piece.Piece.{Piece}
 use Rattle.c_scan.specs.declared.piece.Piece.TheVariants as piece
 use Rattle.c_scan.specs.Literals.{Typed, integer_of}
 use Rattle.c_scan.specs.Spelled.{is_piece, is_blank, begins_number, greatest, longest_piece}
-use Rattle.c_scan.specs.Pieces.{start, after, further, is_accepted, plain_token, number_piece, character_front, string_front, mark_front, block_front, front_with, front_of, Cut, behind, cut_from, cut_of}
-use Rattle.c_scan.specs.Places.{place_behind, StandsAt, AreSpelled}
+use Rattle.c_scan.specs.Pieces.{start, after, further, is_accepted, plain_token, number_piece, character_front, string_front, mark_front, block_front, front_with, front_of, Cut, following, cut_from, cut_of}
+use Rattle.c_scan.specs.Places.{place_after, StandsAt, AreSpelled}
 
 -- a front whose token, if it has one, stands in the text at its place
 abbrev pub FrontStands : List ℕ → Front → Type 0
@@ -62,14 +62,14 @@ with-stands text at (byte ∷ rest) longest stands =
     (on_stands text (byte == 34) _ _ (string-stands text at longest stands)
     (on_stands text (byte == 35) _ _ tt (mark-stands text at longest stands)))))))))
 
--- what a text begins with behind other bytes
-front-stands : (text before bytes : List ℕ) (at : Place) → text ≡ before ++ bytes → at ≡ place_behind start before → FrontStands text (front_of at bytes)
+-- what a text begins with after other bytes
+front-stands : (text before bytes : List ℕ) (at : Place) → text ≡ before ++ bytes → at ≡ place_after start before → FrontStands text (front_of at bytes)
 unfolding longest_piece
 front-stands text before bytes at cut place =
     let count = greatest (λ n. is_piece (take n bytes)) (length bytes) in
     with-stands text at bytes (longest_piece bytes) (before, drop count bytes, cut ∙ ap (λ t. before ++ t) (sym (take-append-drop count bytes)), place)
 
-place-last : (at : Place) (bytes : List ℕ) (byte : ℕ) → place_behind at (bytes ++ byte ∷ []) ≡ after (place_behind at bytes) byte
+place-last : (at : Place) (bytes : List ℕ) (byte : ℕ) → place_after at (bytes ++ byte ∷ []) ≡ after (place_after at bytes) byte
 place-last at [] byte = refl
 place-last at (b ∷ bytes) byte = place-last (after at b) bytes byte
 
@@ -80,17 +80,17 @@ spelled-cons text (piece.Hash at) rest here later = later
 spelled-cons text (piece.BadByte at) rest here later = later
 spelled-cons text (piece.BadLiteral at) rest here later = later
 
-behind-spelled : (text : List ℕ) (at : Place) (begins : Front) (rest : ℕ → Cut) → FrontStands text begins → ((inside : ℕ) → AreSpelled text (rest inside).pieces) → AreSpelled text (behind at begins rest).pieces
-behind-spelled text at (front.Blank count) rest stands each = each (count - 1)
-behind-spelled text at (front.Piece piece count) rest stands each = spelled-cons text piece (rest (count - 1)).pieces stands (each (count - 1))
-behind-spelled text at front.Unclosed rest stands each = tt
+following-spelled : (text : List ℕ) (at : Place) (begins : Front) (rest : ℕ → Cut) → FrontStands text begins → ((inside : ℕ) → AreSpelled text (rest inside).pieces) → AreSpelled text (following at begins rest).pieces
+following-spelled text at (front.Blank count) rest stands each = each (count - 1)
+following-spelled text at (front.Piece piece count) rest stands each = spelled-cons text piece (rest (count - 1)).pieces stands (each (count - 1))
+following-spelled text at front.Unclosed rest stands each = tt
 
-from-spelled : (text before : List ℕ) (inside : ℕ) (at : Place) (bytes : List ℕ) → text ≡ before ++ bytes → at ≡ place_behind start before → AreSpelled text (cut_from inside at bytes).pieces
+from-spelled : (text before : List ℕ) (inside : ℕ) (at : Place) (bytes : List ℕ) → text ≡ before ++ bytes → at ≡ place_after start before → AreSpelled text (cut_from inside at bytes).pieces
 from-spelled text before inside at [] cut place = tt
 from-spelled text before (suc inside) at (byte ∷ rest) cut place =
     from-spelled text (before ++ byte ∷ []) inside (after at byte) rest (cut ∙ sym (append_assoc before (byte ∷ []) rest)) (ap (λ p. after p byte) place ∙ sym (place-last start before byte))
 from-spelled text before zero at (byte ∷ rest) cut place =
-    behind-spelled text at (front_of at (byte ∷ rest)) _ (front-stands text before (byte ∷ rest) at cut place)
+    following-spelled text at (front_of at (byte ∷ rest)) _ (front-stands text before (byte ∷ rest) at cut place)
     (λ inside. from-spelled text (before ++ byte ∷ []) inside (after at byte) rest (cut ∙ sym (append_assoc before (byte ∷ []) rest)) (ap (λ p. after p byte) place ∙ sym (place-last start before byte)))
 
 -- each token among the pieces of a text stands in it at its place

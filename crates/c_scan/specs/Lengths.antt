@@ -15,12 +15,12 @@ use Rattle.c_scan.specs.declared.piece.Front.{Front}
 use Rattle.c_scan.specs.declared.piece.Front.TheVariants as front
 use Rattle.c_scan.specs.declared.piece.Piece.TheVariants as piece
 
--- the bytes of a block comment behind its opening, its end among them, if it ends; the flag says that the byte before is a *
+-- the bytes of a block comment after its opening, its end among them, if it ends; the flag says that the byte before is a *
 abbrev pub block_length : Bool → List ℕ → Option ℕ
 block_length star [] = None
 block_length star (byte ∷ rest) = if byte == 47 && star then Some 1 else option_map suc (block_length (byte == 42) rest)
 
--- the bytes of a string behind its opening quote, its closing one among them, if it has one on its line; the flag says that a
+-- the bytes of a string after its opening quote, its closing one among them, if it has one on its line; the flag says that a
 -- backslash takes the byte along
 abbrev pub string_length : Bool → List ℕ → Option ℕ
 string_length taken [] = None
@@ -33,7 +33,7 @@ string_length taken (byte ∷ rest) =
 abbrev pub AreEndless : List ℕ → ℕ → ℕ → Type 0
 AreEndless text from to = (at : ℕ) → from ≤ at → at < to → slice_index text at ≡ 34 → string_length false (drop (suc at) text) ≡ None
 
--- the bytes of a number behind this byte
+-- the bytes of a number after this byte
 abbrev pub number_length : ℕ → List ℕ → ℕ
 number_length last [] = 0
 number_length last (byte ∷ rest) = if goes_on last byte then suc (number_length byte rest) else 0
@@ -52,7 +52,7 @@ marked_front at text (suc n) = front.Piece (piece.Token (plain_token Mark at (ta
 
 abbrev pub closed_front : Option ℕ → Front
 closed_front None = front.Unclosed
-closed_front (Some behind) = front.Blank (2 + behind)
+closed_front (Some following) = front.Blank (2 + following)
 
 abbrev pub constant_front : Place → List ℕ → Option (ℕ × ℕ) → Front
 constant_front at text None = front.Piece (piece.BadLiteral at) 1
@@ -61,7 +61,7 @@ constant_front at text (Some constant) =
 
 abbrev pub quoted_front : Place → List ℕ → Option ℕ → Front
 quoted_front at text None = front.Piece (piece.BadLiteral at) 1
-quoted_front at text (Some behind) = front.Piece (string_piece at (take (1 + behind) text)) (1 + behind)
+quoted_front at text (Some following) = front.Piece (string_piece at (take (1 + following) text)) (1 + following)
 
 -- what a text begins with
 abbrev pub front_at : Place → List ℕ → Front

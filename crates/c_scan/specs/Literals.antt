@@ -20,7 +20,7 @@ is_digit_of base byte = (nat_le 48 byte && nat_lt byte (48 + base) && nat_le byt
 abbrev pub digit_value : ℕ → ℕ
 digit_value byte = if nat_le byte 57 then byte - 48 else if nat_le byte 70 then byte - 55 else byte - 87
 
--- the number of these digits behind others of this number
+-- the number of these digits after others of this number
 abbrev pub value_from : ℕ → ℕ → List ℕ → ℕ
 value_from base value [] = value
 value_from base value (byte ∷ rest) = value_from base (value * base + digit_value byte) rest
@@ -64,7 +64,7 @@ Typed = ℕ × Scalar
 abbrev pub typed : ℕ → List Scalar → Option Typed
 typed number types = option_map (λ scalar. (number, scalar)) (find (has_number number) types)
 
--- the literal of these digits with what stands behind them
+-- the literal of these digits with what stands after them
 abbrev pub integer_of_digits : ℕ → List ℕ → List ℕ → Option Typed
 integer_of_digits base [] suffix = None
 integer_of_digits base (first ∷ rest) suffix = option_and_then (λ s. typed (value_from base 0 (first ∷ rest)) (types_of (base == 10) s)) (suffix_of suffix)
@@ -72,7 +72,7 @@ integer_of_digits base (first ∷ rest) suffix = option_and_then (λ s. typed (v
 abbrev pub integer_of_base : ℕ → List ℕ → Option Typed
 integer_of_base base text = integer_of_digits base (take (prefix_len (is_digit_of base) text) text) (drop (prefix_len (is_digit_of base) text) text)
 
--- the value and the type of a whole literal: hexadecimal behind 0x, octal with a leading 0, and else decimal
+-- the value and the type of a whole literal: hexadecimal after 0x, octal with a leading 0, and else decimal
 abbrev pub integer_of : List ℕ → Option Typed
 integer_of text =
     if starts_with nat_eq text (codes "0x") then integer_of_base 16 (drop 2 text)
@@ -81,7 +81,7 @@ integer_of text =
 
 -- ---- characters
 
--- what stands behind a backslash
+-- what stands after a backslash
 abbrev pub escape : ℕ → Option ℕ
 escape byte =
     if byte == 39 || byte == 34 || byte == 63 || byte == 92 then Some byte

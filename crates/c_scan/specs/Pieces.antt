@@ -21,7 +21,7 @@ use Rattle.c_scan.specs.declared.piece.Front.TheVariants as front
 abbrev pub start : Place
 start = record { line = 1; column = 1 }
 
--- the place behind a byte: the next line's first column behind a newline
+-- the place after a byte: the next line's first column after a newline
 abbrev pub after : Place → ℕ → Place
 after at byte = if byte == 10 then record { line = at.line + 1; column = 1 } else record { line = at.line; column = at.column + 1 }
 
@@ -50,7 +50,7 @@ number_piece at text (Some literal) = piece.Token (record { kind = Integer; text
 abbrev pub number_front : Place → List ℕ → Front
 number_front at number = front.Piece (number_piece at number (integer_of number)) (length number)
 
--- the value of a whole character constant behind its first quote
+-- the value of a whole character constant after its first quote
 abbrev pub character_value : List ℕ → ℕ
 character_value [] = 0
 character_value (byte ∷ []) = byte
@@ -103,7 +103,7 @@ front_of at text = front_with at text (longest_piece text)
 
 -- ---- the pieces of a text
 
--- the pieces, the place of a comment that doesn't end, and the place behind the last byte
+-- the pieces, the place of a comment that doesn't end, and the place after the last byte
 pub record Cut : Type 0 where
   pub pieces : List Piece
   pub unclosed : Option Place
@@ -113,16 +113,16 @@ abbrev pub before : Piece → Cut → Cut
 before first cut = record { pieces = first ∷ cut.pieces; unclosed = cut.unclosed; end = cut.end }
 
 -- what a text begins with at a place, and then the pieces of the rest, whose first bytes belong to it but for the first
-abbrev pub behind : Place → Front → (ℕ → Cut) → Cut
-behind at (front.Blank count) rest = rest (count - 1)
-behind at (front.Piece first count) rest = before first (rest (count - 1))
-behind at front.Unclosed rest = record { pieces = []; unclosed = Some at; end = at }
+abbrev pub following : Place → Front → (ℕ → Cut) → Cut
+following at (front.Blank count) rest = rest (count - 1)
+following at (front.Piece first count) rest = before first (rest (count - 1))
+following at front.Unclosed rest = record { pieces = []; unclosed = Some at; end = at }
 
 -- the pieces of a text from a place on, whose first bytes, this many, belong to a piece that began before
 abbrev pub cut_from : ℕ → Place → List ℕ → Cut
 cut_from inside at [] = record { pieces = []; unclosed = None; end = at }
 cut_from (suc inside) at (byte ∷ rest) = cut_from inside (after at byte) rest
-cut_from zero at (byte ∷ rest) = behind at (front_of at (byte ∷ rest)) (λ inside. cut_from inside (after at byte) rest)
+cut_from zero at (byte ∷ rest) = following at (front_of at (byte ∷ rest)) (λ inside. cut_from inside (after at byte) rest)
 
 -- the pieces of a text
 abbrev pub cut_of : List ℕ → Cut

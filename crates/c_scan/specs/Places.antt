@@ -5,14 +5,14 @@ use Rattle.c_scan.specs.declared.piece.Piece.{Piece}
 use Rattle.c_scan.specs.declared.piece.Piece.TheVariants as piece
 use Rattle.c_scan.specs.Pieces.{after, start}
 
--- the place behind these bytes, of which the first stands at a place
-abbrev pub place_behind : Place → List ℕ → Place
-place_behind at [] = at
-place_behind at (byte ∷ rest) = place_behind (after at byte) rest
+-- the place after these bytes, of which the first stands at a place
+abbrev pub place_after : Place → List ℕ → Place
+place_after at [] = at
+place_after at (byte ∷ rest) = place_after (after at byte) rest
 
 -- these bytes stand in the text at this place
 abbrev pub StandsAt : List ℕ → Place → List ℕ → Type 0
-StandsAt text at bytes = (front : List ℕ) × (rest : List ℕ) × (text ≡ front ++ (bytes ++ rest)) × (at ≡ place_behind start front)
+StandsAt text at bytes = (front : List ℕ) × (rest : List ℕ) × (text ≡ front ++ (bytes ++ rest)) × (at ≡ place_after start front)
 
 -- each token among pieces stands in the text at its place
 abbrev pub AreSpelled : List ℕ → List Piece → Type 0

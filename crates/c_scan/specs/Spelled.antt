@@ -15,23 +15,23 @@ is_empty (byte ∷ rest) = false
 
 -- ---- comments (6.4.9)
 
--- a block comment behind its opening: its end is the first that it has; the flag says that the byte before is a *
+-- a block comment after its opening: its end is the first that it has; the flag says that the byte before is a *
 abbrev pub is_block : Bool → List ℕ → Bool
 is_block star [] = false
 is_block star (byte ∷ rest) = if byte == 47 && star then is_empty rest else is_block (byte == 42) rest
 
--- a comment behind its first slash: // to the end of the line, or a block
+-- a comment after its first slash: // to the end of the line, or a block
 abbrev pub is_comment : List ℕ → Bool
 is_comment [] = false
 is_comment (second ∷ rest) = (second == 47 && list_all (λ byte. not (byte == 10)) rest) || (second == 42 && is_block false rest)
 
 -- ---- numbers (6.4.8)
 
--- a byte of a number behind another one: a letter, digit, underscore or point, or a sign behind an exponent's letter
+-- a byte of a number after another one: a letter, digit, underscore or point, or a sign after an exponent's letter
 abbrev pub goes_on : ℕ → ℕ → Bool
 goes_on last byte = is_word_byte byte || byte == 46 || ((byte == 43 || byte == 45) && (last == 101 || last == 69 || last == 112 || last == 80))
 
--- each byte goes on behind the one before, the first behind this one
+-- each byte goes on after the one before, the first after this one
 abbrev pub all_go_on : ℕ → List ℕ → Bool
 all_go_on last [] = true
 all_go_on last (byte ∷ rest) = goes_on last byte && all_go_on byte rest
@@ -49,14 +49,14 @@ abbrev pub is_quote : List ℕ → Bool
 is_quote [] = false
 is_quote (byte ∷ rest) = byte == 39 && is_empty rest
 
--- a character constant behind its first quote: one plain byte, or a backslash and an escape's byte, and a quote
+-- a character constant after its first quote: one plain byte, or a backslash and an escape's byte, and a quote
 abbrev pub is_character : List ℕ → Bool
 is_character [] = false
 is_character (byte ∷ []) = false
 is_character (byte ∷ next ∷ rest) =
     if byte == 92 then is_some (escape next) && is_quote rest else next == 39 && is_plain byte && is_empty rest
 
--- a string behind its first quote: its end is the first quote that no backslash takes along, on the same line
+-- a string after its first quote: its end is the first quote that no backslash takes along, on the same line
 abbrev pub is_string : Bool → List ℕ → Bool
 is_string taken [] = false
 is_string taken (byte ∷ rest) =

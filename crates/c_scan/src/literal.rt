@@ -8,7 +8,7 @@ ghost use Rattle.c_scan.specs.Literals.{is_digit_of as is_digit_of_base, digit_v
 use crate::bytes::is;
 use hy_bits::Scalar;
 
-/// What stands behind the digits of an integer literal.
+/// What stands after the digits of an integer literal.
 #[derive(Clone, Copy, Debug, PartialEq, Eq)]
 pub enum Suffix {
     Plain,
@@ -100,7 +100,7 @@ fn value_of(base: u8, digits: &[u8]) -> Option<u64>
     Some(value)
 }
 
-/// What these bytes behind the digits of a literal say, if anything.
+/// What these bytes after the digits of a literal say, if anything.
 fn suffix_of(text: &[u8]) -> Option<Suffix>
     ensures { result ≡ suffix_of_text text.now }
 {
@@ -203,7 +203,7 @@ pub fn character_of(text: &[u8]) -> Option<(u8, usize)>
     }
 }
 
-/// What a byte behind a backslash stands for.
+/// What a byte after a backslash stands for.
 fn escape(byte: u8) -> Option<u8>
     ensures { result ≡ escaped_byte byte }
 {

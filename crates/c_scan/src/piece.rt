@@ -32,6 +32,6 @@ pub struct Scan {
     pub pieces: Vec<Piece>,
     /// The place of a comment that doesn't end.
     pub unclosed: Option<Place>,
-    /// The place behind the last byte, or that of a comment that doesn't end.
+    /// The place after the last byte, or that of a comment that doesn't end.
     pub end: Place,
 }

@@ -3,7 +3,7 @@ ghost use Rattle.c_scan.specs.Pieces.{after as after_byte, further as further_by
 
 use c_tree::Place;
 
-/// The place behind a byte that stands here.
+/// The place after a byte that stands here.
 pub fn after(place: Place, byte: u8) -> Place
     requires line { place.line < 2 ^ 31 }
     requires column { place.column < 2 ^ 31 }

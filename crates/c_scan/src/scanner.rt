@@ -135,12 +135,12 @@ fn front_of(alloc: Global, place: Place, text: &[u8], endless: bool) -> Result<F
     }
 }
 
-/// A block comment whose bytes behind its opening begin this text.
+/// A block comment whose bytes after its opening begin this text.
 fn block_front(text: &[u8]) -> Front
     ensures { result ≡ front_of_block (length_of_block false text.now) }
 {
     match block_length(text) {
-        Some(behind) => Front::Blank(2 + behind),
+        Some(following) => Front::Blank(2 + following),
         None => Front::Unclosed,
     }
 }
@@ -218,9 +218,9 @@ fn string_front(alloc: Global, place: Place, text: &[u8], endless: bool) -> Resu
         return Ok(Front::Piece(Piece::BadLiteral(place), 1));
     }
     match string_length(&text[1..]) {
-        Some(behind) => {
-            let piece = string_piece(alloc, place, &text[..1 + behind])?;
-            Ok(Front::Piece(piece, 1 + behind))
+        Some(following) => {
+            let piece = string_piece(alloc, place, &text[..1 + following])?;
+            Ok(Front::Piece(piece, 1 + following))
         }
         None => Ok(Front::Piece(Piece::BadLiteral(place), 1)),
     }

@@ -1,7 +1,7 @@
 ghost use Rattle.std.specs.Prelude.{◌≡◌, ◌+◌, ◌≤◌, ◌-◌, Bool, true, false, not, ◌==◌, length, IfSome};
 ghost use Rattle.std.specs.List.{prefix_len};
 ghost use Rattle.c_tree.specs.Names.{is_word_byte as is_byte_of_word};
-ghost use Rattle.c_scan.specs.Spelled.{goes_on as goes_on_behind};
+ghost use Rattle.c_scan.specs.Spelled.{goes_on as goes_on_after};
 ghost use Rattle.c_scan.specs.Lengths.{block_length as length_of_block, string_length as length_of_string, number_length as length_of_number};
 ghost use Rattle.c_scan.specs.Pieces.{is_accepted as is_accepted_byte};
 
@@ -61,9 +61,9 @@ pub fn number_length(text: &[u8]) -> usize
     text.len()
 }
 
-/// Whether a number goes on with a byte behind another one.
+/// Whether a number goes on with a byte after another one.
 fn goes_on(last: u8, byte: u8) -> bool
-    ensures { result ≡ goes_on_behind last byte }
+    ensures { result ≡ goes_on_after last byte }
 {
     is_word_byte(byte)
         || byte == b'.'
@@ -71,7 +71,7 @@ fn goes_on(last: u8, byte: u8) -> bool
             && (last == b'e' || last == b'E' || last == b'p' || last == b'P'))
 }
 
-/// The number of bytes of a block comment behind its opening, its end among them, if it ends.
+/// The number of bytes of a block comment after its opening, its end among them, if it ends.
 pub fn block_length(text: &[u8]) -> Option<usize>
     ensures value { result ≡ length_of_block false text.now }
     ensures bound { IfSome result (λ count. count ≤ length text.now) }
@@ -86,7 +86,7 @@ pub fn block_length(text: &[u8]) -> Option<usize>
     None
 }
 
-/// The number of bytes of a string behind its opening quote, its closing one among them, if it has one on its line.
+/// The number of bytes of a string after its opening quote, its closing one among them, if it has one on its line.
 pub fn string_length(text: &[u8]) -> Option<usize>
     ensures value { result ≡ length_of_string false text.now }
     ensures bound { IfSome result (λ count. count ≤ length text.now) }

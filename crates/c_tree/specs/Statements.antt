@@ -1,6 +1,6 @@
 -- Statements (C11 6.8), in the order of Annex A: of each production the tokens that a tree of it wants, and then which trees are of the
 -- grammar. A statement's own tokens are nested in it, and in the statements around it. Left out of C11: goto and its labels, labels that
--- stand elsewhere than in front of the statements of a switch, and a switch without braces.
+-- stand elsewhere than before the statements of a switch, and a switch without braces.
 use Rattle.std.specs.Prelude.{◌+◌, Bool, true, false, ◌&&◌, not, option_map, List, [], ◌∷◌, ◌++◌, map, Option, Some, None, codes}
 use Rattle.std.specs.List.{list_all}
 use Rattle.c_tree.specs.Pieces.{bounded, mark, word, mark_at, word_at, all_of, optional}

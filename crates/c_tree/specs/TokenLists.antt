@@ -38,7 +38,7 @@ is_end_kind Mark = false
 is_end_kind Bound = false
 is_end_kind End = true
 
--- inner tokens, and behind them the end
+-- inner tokens, and after them the end
 abbrev pub is_closed : List Token → Bool
 is_closed [] = false
 is_closed (token ∷ []) = is_end_kind token.kind

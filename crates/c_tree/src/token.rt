@@ -19,7 +19,7 @@ pub enum TokenKind {
     Word,
     /// A name that no `typedef` declares.
     Name,
-    /// A name behind the end of the `typedef` that declares it.
+    /// A name after the end of the `typedef` that declares it.
     TypeName,
     /// An integer literal.
     Integer,
@@ -38,7 +38,7 @@ pub enum TokenKind {
 /// A token. `text` has its bytes as they are spelled, quotes among them; that of a bound is its number's, that of the
 /// end is empty. `number` is the value of a literal, as a word of its `scalar`, or of a bound; elsewhere it is 0, and
 /// `scalar` is `S32` where the token is no literal. `place` is that of the first byte; a token that stands for a macro
-/// has the place where the macro is used, a bound that of its line's `#`, and the end that behind the last byte.
+/// has the place where the macro is used, a bound that of its line's `#`, and the end that after the last byte.
 #[derive(Debug, Drop)]
 pub struct Token {
     pub kind: TokenKind,

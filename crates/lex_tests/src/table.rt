@@ -1,6 +1,6 @@
 //! Short texts, each with its tokens or its first fault, by hand from C11 6.4 and 6.10 and the rules of the language.
 
-/// A line each: a text, in which `~` and two hexadecimal digits stand for a byte; behind ` => ` what is printed of its
+/// A line each: a text, in which `~` and two hexadecimal digits stand for a byte; after ` => ` what is printed of its
 /// tokens, which are place, kind, text, and of a literal or bound its number and type; or its fault with the place.
 pub const TEXTS: &str = r###" => 1:1 End
  ~09~0a~0b~0c~0d => 2:4 End

@@ -2,7 +2,7 @@ use Rattle.std.proofs.Common.{◌≡◌, ◌+◌, ◌++◌, take, drop, get_or, 
 use Rattle.c_tree.specs.declared.token.Token.{Token}
 use Rattle.c_tree.specs.declared.token.TokenKind.TheVariants.{TypeName}
 use Rattle.c_lex.specs.Typedefs.{role_of, named_token, named}
-use Rattle.c_lex.specs.Scopes.{Scope, is_type, behind, scoped}
+use Rattle.c_lex.specs.Scopes.{Scope, is_type, following, scoped}
 use Rattle.c_lex.specs.Views.{scope_of}
 use Rattle.c_lex.proofs.Declarations.{named-scoped}
 use Rattle.c_lex.proofs.TypeSteps.{named-set}
@@ -14,7 +14,7 @@ loop-token-preserved c =
     let scope = scope_of c.loop-token.scope in
     let token : Token = get_or c.loop-token.tokens c.loop-token.token-index c.token-item.result in
     let i = c.loop-token.token-index in
-    let named_so : named c.args.tokens.now ≡ take (c.loop-token.token-index + 1) c.if-is_type.tokens ++ scoped (behind scope (role_of token) token) (drop (c.loop-token.token-index + 1) c.if-is_type.tokens) =
+    let named_so : named c.args.tokens.now ≡ take (c.loop-token.token-index + 1) c.if-is_type.tokens ++ scoped (following scope (role_of token) token) (drop (c.loop-token.token-index + 1) c.if-is_type.tokens) =
     elim c.if-is_type.branch [
       | then-is_type w ↦
           let test : is_type scope token ≡ true = sym c.is_type-is_type.ensures ∙ w.if-is_type.true in

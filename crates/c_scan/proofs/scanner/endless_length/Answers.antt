@@ -12,5 +12,5 @@ none_of (Some count) false is holds = absurd (cc)
 pub returns-in-len1-up-clause-endless : goal.returns-in-len1-up-clause-endless
 returns-in-len1-up-clause-endless c =
     let none : c.string_length.result ≡ None = none_of _ _ c.is_none.ensures c.if-is_none.true in
-    let behind = c.string_length.ensures.value ∙ ap (string_length false) (take_rest c.args.text.now 1) in
-    rw c.line_length.ensures.value (endless_line c.args.text.now (sym behind ∙ none))
+    let following = c.string_length.ensures.value ∙ ap (string_length false) (take_rest c.args.text.now 1) in
+    rw c.line_length.ensures.value (endless_line c.args.text.now (sym following ∙ none))

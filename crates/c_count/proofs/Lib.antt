@@ -1,0 +1,2 @@
+-- counts of productions by those of their parts
+pub mod Counting

@@ -1,0 +1,2 @@
+-- how many tokens a part of a tree has
+pub mod Counts
