@@ -14,7 +14,7 @@ use Rattle.c_tree.specs.declared.expressions.Identifier.{Identifier}
 use Rattle.c_tree.specs.declared.expressions.Literal.{Literal}
 use Rattle.c_tree.specs.declared.expressions.UnaryOperator.{UnaryOperator}
 use Rattle.c_tree.specs.declared.token.Place.{Place}
-use Rattle.c_expr.proofs.Starting.{chain_parts, conditional_parts}
+use Rattle.c_grammar.proofs.Starting.{chain_parts, conditional_parts}
 use Rattle.c_reader.proofs.Truths.{not_true}
 use Rattle.c_decl.specs.ExpressionStatements.{expr_is_postfix, is_postfix}
 

@@ -1,6 +1,6 @@
--- The readers of declared objects of one type in three forms, which other readers compose: whole, behind the type, and behind the first
+-- The readers of declared objects of one type in three forms, which other readers compose: whole, after the type, and after the first
 -- declared name. Each is read, and what is read is one; whole objects are a type and the objects of it, and these are a pointer, a name
--- and what stands behind it.
+-- and what stands after it.
 use Rattle.std.proofs.Common.{◌≡◌, ℕ, ◌+◌, Bool, true, false, ◌&&◌, ◌||◌, List, [], ◌∷◌, ◌++◌, map, Option, refl, sym, ap, ◌∙◌, subst, codes, append_assoc}
 use Rattle.std.proofs.lemmas.List.{append-nil}
 use Rattle.std.specs.List.{list_all}
@@ -17,7 +17,7 @@ use Rattle.c_tree.specs.declared.statements.Pointer.{Pointer}
 use Rattle.c_tree.specs.declared.statements.InitDeclarator.{InitDeclarator}
 use Rattle.c_tree.specs.declared.statements.Declaration.{Declaration}
 use Rattle.c_reader.specs.Tokens.{is_mark, is_spelled, is_kind, spelled_by, found_by, found_in}
-use Rattle.c_expr.specs.Tokens.{type_goes_on, type_goes_by}
+use Rattle.c_grammar.specs.Tokens.{type_goes_on, type_goes_by}
 use Rattle.c_reader.proofs.Reader.{Language, Of, Reads}
 use Rattle.c_reader.proofs.Binding.{Both, bind_reads}
 use Rattle.c_reader.proofs.Giving.{Given, give_reads, reads_as}
@@ -28,16 +28,16 @@ use Rattle.c_reader.proofs.Beginning.{Begins, SomeOf, begins_both, some_both, so
 use Rattle.c_reader.proofs.Joining.{in_both, in_single, onto}
 use Rattle.c_reader.proofs.Listing.{separated_rest, separated_is}
 use Rattle.c_reader.proofs.Spelt.{named, named_reads}
-use Rattle.c_expr.proofs.Typing.{SuitsType, begins_type}
-use Rattle.c_expr.proofs.Suffixes.{SpecsAt, StopsType, Any, no_name}
-use Rattle.c_expr.proofs.Primaries.{first_from}
-use Rattle.c_expr.proofs.Members.{some_specs}
-use Rattle.c_expr.proofs.Levels.{all_read}
+use Rattle.c_grammar.proofs.Typing.{SuitsType, begins_type}
+use Rattle.c_grammar.proofs.Suffixes.{SpecsAt, StopsType, Any, no_name}
+use Rattle.c_grammar.proofs.Primaries.{first_from}
+use Rattle.c_grammar.proofs.Members.{some_specs}
+use Rattle.c_grammar.proofs.Levels.{all_read}
 use Rattle.c_reader.proofs.Truths.{not_true, and_left, and_right, and_both}
-use Rattle.c_decl.specs.Declarations.{read_declarator, read_objects_behind, read_objects_of, read_objects}
+use Rattle.c_decl.specs.Declarations.{read_declarator, read_objects_after, read_objects_of, read_objects}
 use Rattle.c_decl.proofs.Following.{RestOf, some_rest, rest_stops, rest_reads}
 use Rattle.c_decl.proofs.Pointing.{PointerAt, StopsPointer, some_pointer, pointed_begins, pointer_reads}
-use Rattle.c_decl.proofs.Declaring.{StopsDeclarator, DeclaratorBehind, wants_behind, declarator_flat, name_begins, name_stops, some_declarator_behind, some_declarator, declarator_behind_reads, declarator_reads}
+use Rattle.c_decl.proofs.Declaring.{StopsDeclarator, DeclaratorFollowed, wants_following, declarator_flat, name_begins, name_stops, some_declarator_following, some_declarator, declarator_following_reads, declarator_reads}
 
 -- declared objects stand before a semicolon
 abbrev pub StopsObjects : List Token → Type 0
@@ -46,7 +46,7 @@ StopsObjects = FirstIs (is_mark (codes ";")) true
 abbrev pub ObjectsAt : ℕ → Language Declaration
 ObjectsAt n = Of are_objects (λ o. wants_of_objects o n)
 
--- the objects of this type, with what stands behind it; whether the type is of the grammar isn't asked here
+-- the objects of this type, with what stands after it; whether the type is of the grammar isn't asked here
 pub record ObjectsOf (n : ℕ) (specs : Specifiers) (objects : Declaration) (pieces : List Piece) : Type 0 where
   pub specs_is : objects.specs ≡ specs
   pub grammar : (has_some objects.declarators && list_all is_declarator objects.declarators) ≡ true
@@ -55,19 +55,19 @@ pub record ObjectsOf (n : ℕ) (specs : Specifiers) (objects : Declaration) (pie
 abbrev pub declared_as : Specifiers → List InitDeclarator → Declaration
 declared_as specs declarators = record { specs = specs; declarators = declarators }
 
--- what stands behind the first declared name
-abbrev pub wants_behind_first : InitDeclarator → List InitDeclarator → ℕ → List Piece
-wants_behind_first first rest n = wants_behind first n ++ separated_rest is_declarator wants_of_declarator n (codes ",") rest
+-- what stands after the first declared name
+abbrev pub wants_following_first : InitDeclarator → List InitDeclarator → ℕ → List Piece
+wants_following_first first rest n = wants_following first n ++ separated_rest is_declarator wants_of_declarator n (codes ",") rest
 
--- the objects of this type of which the first has this pointer and name, with what stands behind that name
-pub record ObjectsBehind (n : ℕ) (specs : Specifiers) (pointer : Option Pointer) (name : Identifier) (objects : Declaration) (pieces : List Piece) : Type 0 where
+-- the objects of this type of which the first has this pointer and name, with what stands after that name
+pub record ObjectsFollowed (n : ℕ) (specs : Specifiers) (pointer : Option Pointer) (name : Identifier) (objects : Declaration) (pieces : List Piece) : Type 0 where
   pub first : InitDeclarator
   pub rest : List InitDeclarator
   pub is : objects ≡ declared_as specs (first ∷ rest)
   pub pointer_is : first.pointer ≡ pointer
   pub name_is : first.name ≡ name
   pub grammar : list_all is_declarator (first ∷ rest) ≡ true
-  pub wants : pieces ≡ wants_behind_first first rest n
+  pub wants : pieces ≡ wants_following_first first rest n
 
 comma_ends : (ts : List Token) → FirstIs (is_mark (codes ",")) true ts → StopsDeclarator ts
 unfolding spelled_by is_spelled is_kind
@@ -82,16 +82,16 @@ unfolding spelled_by is_spelled is_kind
 no_comma = first_from Mark (codes ";") (spelled_by Mark (codes ",")) false refl
 
 module _ (n : ℕ) where
-  -- ---- behind the first name
+  -- ---- after the first name
 
   abbrev Rest : Language (List InitDeclarator)
   Rest = RestOf is_declarator wants_of_declarator n (codes ",")
 
-  abbrev BehindL : Specifiers → Option Pointer → Identifier → Language Declaration
-  BehindL specs pointer name = Both (DeclaratorBehind n pointer name) (λ first. Both Rest (λ rest. Given (declared_as specs (first ∷ rest))))
+  abbrev FollowedL : Specifiers → Option Pointer → Identifier → Language Declaration
+  FollowedL specs pointer name = Both (DeclaratorFollowed n pointer name) (λ first. Both Rest (λ rest. Given (declared_as specs (first ∷ rest))))
 
-  behind_to : (specs : Specifiers) (pointer : Option Pointer) (name : Identifier) (o : Declaration) (ps : List Piece) → BehindL specs pointer name o ps → ObjectsBehind n specs pointer name o ps
-  behind_to specs pointer name o ps b =
+  following_to : (specs : Specifiers) (pointer : Option Pointer) (name : Identifier) (o : Declaration) (ps : List Piece) → FollowedL specs pointer name o ps → ObjectsFollowed n specs pointer name o ps
+  following_to specs pointer name o ps b =
       let rest = b.right in
       record {
         first = b.first;
@@ -103,35 +103,35 @@ module _ (n : ℕ) where
         wants = onto b.whole b.left.wants (onto rest.whole rest.left.wants rest.right.none ∙ append-nil (separated_rest is_declarator wants_of_declarator n (codes ",") rest.first));
       }
 
-  behind_from : (specs : Specifiers) (pointer : Option Pointer) (name : Identifier) (o : Declaration) (ps : List Piece) → ObjectsBehind n specs pointer name o ps → BehindL specs pointer name o ps
-  behind_from specs pointer name o ps x =
-      let behind = separated_rest is_declarator wants_of_declarator n (codes ",") x.rest in
-      subst (λ u. BehindL specs pointer name o u) (ap (λ u. wants_behind x.first n ++ u) (append-nil behind) ∙ sym x.wants)
+  following_from : (specs : Specifiers) (pointer : Option Pointer) (name : Identifier) (o : Declaration) (ps : List Piece) → ObjectsFollowed n specs pointer name o ps → FollowedL specs pointer name o ps
+  following_from specs pointer name o ps x =
+      let following = separated_rest is_declarator wants_of_declarator n (codes ",") x.rest in
+      subst (λ u. FollowedL specs pointer name o u) (ap (λ u. wants_following x.first n ++ u) (append-nil following) ∙ sym x.wants)
       (in_both _ _ _ _ _ x.first (record { pointer_is = x.pointer_is; name_is = x.name_is; grammar = and_left (is_declarator x.first) (list_all is_declarator x.rest) x.grammar; wants = refl })
       (in_both _ _ _ _ _ x.rest (record { grammar = and_right (is_declarator x.first) (list_all is_declarator x.rest) x.grammar; wants = refl }) (record { tree_is = x.is; none = refl })))
 
   some_after : (specs : Specifiers) (first : InitDeclarator) → SomeOf (Both Rest (λ rest. Given (declared_as specs (first ∷ rest))))
   some_after specs first = some_both _ _ (some_rest is_declarator wants_of_declarator n (codes ",")) (λ rest. some_given (declared_as specs (first ∷ rest)))
 
-  pub some_objects_behind : (specs : Specifiers) (pointer : Option Pointer) (name : Identifier) → SomeOf (ObjectsBehind n specs pointer name)
-  some_objects_behind specs pointer name =
-      let x = some_both (DeclaratorBehind n pointer name) (λ first. Both Rest (λ rest. Given (declared_as specs (first ∷ rest)))) (some_declarator_behind n pointer name) (some_after specs) in
-      (x.0, (x.1.0, behind_to specs pointer name x.0 x.1.0 x.1.1))
+  pub some_objects_following : (specs : Specifiers) (pointer : Option Pointer) (name : Identifier) → SomeOf (ObjectsFollowed n specs pointer name)
+  some_objects_following specs pointer name =
+      let x = some_both (DeclaratorFollowed n pointer name) (λ first. Both Rest (λ rest. Given (declared_as specs (first ∷ rest)))) (some_declarator_following n pointer name) (some_after specs) in
+      (x.0, (x.1.0, following_to specs pointer name x.0 x.1.0 x.1.1))
 
-  -- ---- behind the type: a pointer, a name and what stands behind it
+  -- ---- after the type: a pointer, a name and what stands after it
 
   abbrev pub NamedL : Specifiers → Option Pointer → Language Declaration
-  NamedL specs pointer = Both (Single (named Name n)) (λ name. ObjectsBehind n specs pointer name)
+  NamedL specs pointer = Both (Single (named Name n)) (λ name. ObjectsFollowed n specs pointer name)
 
   abbrev pub PointedL : Specifiers → Language Declaration
   PointedL specs = Both (PointerAt n) (NamedL specs)
 
-  first_flat : (first : InitDeclarator) (rest : List InitDeclarator) → wants_of_pointer first.pointer n ++ (name first.name n ++ wants_behind_first first rest n) ≡ separated (codes ",") (map wants_of_declarator (first ∷ rest)) n
+  first_flat : (first : InitDeclarator) (rest : List InitDeclarator) → wants_of_pointer first.pointer n ++ (name first.name n ++ wants_following_first first rest n) ≡ separated (codes ",") (map wants_of_declarator (first ∷ rest)) n
   first_flat first rest =
-      let behind = separated_rest is_declarator wants_of_declarator n (codes ",") rest in
-      ap (λ u. wants_of_pointer first.pointer n ++ u) (sym (append_assoc (name first.name n) (wants_behind first n) behind))
-      ∙ sym (append_assoc (wants_of_pointer first.pointer n) (name first.name n ++ wants_behind first n) behind)
-      ∙ ap (λ u. u ++ behind) (declarator_flat n first) ∙ separated_is is_declarator wants_of_declarator n (codes ",") first rest
+      let following = separated_rest is_declarator wants_of_declarator n (codes ",") rest in
+      ap (λ u. wants_of_pointer first.pointer n ++ u) (sym (append_assoc (name first.name n) (wants_following first n) following))
+      ∙ sym (append_assoc (wants_of_pointer first.pointer n) (name first.name n ++ wants_following first n) following)
+      ∙ ap (λ u. u ++ following) (declarator_flat n first) ∙ separated_is is_declarator wants_of_declarator n (codes ",") first rest
 
   pub pointed_to : (specs : Specifiers) (o : Declaration) (ps : List Piece) → PointedL specs o ps → ObjectsOf n specs o ps
   pointed_to specs o ps b =
@@ -154,7 +154,7 @@ module _ (n : ℕ) where
   pointed_from specs o ps x = subst (λ u. PointedL u o ps) x.specs_is (pointed_own o.specs o.declarators ps x.grammar x.wants)
 
   some_named : (specs : Specifiers) (pointer : Option Pointer) → SomeOf (NamedL specs pointer)
-  some_named specs pointer = some_both _ _ (some_single (named Name n) no_name) (some_objects_behind specs pointer)
+  some_named specs pointer = some_both _ _ (some_single (named Name n) no_name) (some_objects_following specs pointer)
 
   pub some_objects_of : (specs : Specifiers) → SomeOf (ObjectsOf n specs)
   some_objects_of specs =
@@ -164,7 +164,7 @@ module _ (n : ℕ) where
   -- they begin with a star or a name
   pub begins_objects_of : (specs : Specifiers) (by : TokenKind → List ℕ → Bool) (b : Bool) → by Mark (codes "*") ≡ b → ((text : List ℕ) → by Name text ≡ b) → Begins (ObjectsOf n specs) (λ w. by w.kind w.text) b
   begins_objects_of specs by b star is_name_ o ps front rest is fits =
-      pointed_begins n (NamedL specs) by b star (λ pointer. name_begins n (λ name. ObjectsBehind n specs pointer name) by b is_name_) o ps front rest (pointed_from specs o ps is) fits
+      pointed_begins n (NamedL specs) by b star (λ pointer. name_begins n (λ name. ObjectsFollowed n specs pointer name) by b is_name_) o ps front rest (pointed_from specs o ps is) fits
 
   -- ---- whole objects: a type and the objects of it
 
@@ -207,11 +207,11 @@ objects_stop_type n specs = begins_objects_of n specs type_goes_by false refl (�
 -- ---- the readers
 
 module _ (most size n left : ℕ) (level : n + left ≡ most + 1) where
-  pub objects_behind_reads : (specs : Specifiers) (pointer : Option Pointer) (name : Identifier) → Reads (ObjectsBehind n specs pointer name) most size StopsObjects (read_objects_behind size left specs pointer name)
-  unfolding read_objects_behind
-  objects_behind_reads specs pointer name =
-      reads_as (behind_to n specs pointer name) (behind_from n specs pointer name)
-      (bind_reads _ _ most size StopsDeclarator StopsObjects _ _ (declarator_behind_reads most size n left level pointer name)
+  pub objects_following_reads : (specs : Specifiers) (pointer : Option Pointer) (name : Identifier) → Reads (ObjectsFollowed n specs pointer name) most size StopsObjects (read_objects_after size left specs pointer name)
+  unfolding read_objects_after
+  objects_following_reads specs pointer name =
+      reads_as (following_to n specs pointer name) (following_from n specs pointer name)
+      (bind_reads _ _ most size StopsDeclarator StopsObjects _ _ (declarator_following_reads most size n left level pointer name)
       (λ first. bind_reads _ _ most size StopsObjects StopsObjects _ _ (rest_reads is_declarator wants_of_declarator n (codes ",") most size left level StopsDeclarator StopsObjects (read_declarator size left) (declarator_reads most size n left level) (some_declarator n) comma_ends semicolon_ends no_comma)
       (λ rest. give_reads (declared_as specs (first ∷ rest)) most size StopsObjects)
       (λ rest ps is. some_given (declared_as specs (first ∷ rest)))
@@ -224,11 +224,11 @@ module _ (most size n left : ℕ) (level : n + left ≡ most + 1) where
   objects_of_reads specs =
       reads_as (pointed_to n specs) (pointed_from n specs)
       (bind_reads _ _ most size StopsPointer StopsObjects _ _ (pointer_reads most size n left level)
-      (λ pointer. bind_reads _ _ most size Any StopsObjects _ _ (named_reads most size Any Name n left level) (objects_behind_reads specs pointer)
-      (λ name ps is. some_objects_behind n specs pointer name)
+      (λ pointer. bind_reads _ _ most size Any StopsObjects _ _ (named_reads most size Any Name n left level) (objects_following_reads specs pointer)
+      (λ name ps is. some_objects_following n specs pointer name)
       (λ name c qs ys rest is fits stop. tt))
       (λ pointer ps is. some_named n specs pointer)
-      (λ pointer c qs ys rest is fits stop. name_stops n (λ name. ObjectsBehind n specs pointer name) c qs ys rest is fits))
+      (λ pointer c qs ys rest is fits stop. name_stops n (λ name. ObjectsFollowed n specs pointer name) c qs ys rest is fits))
 
   pub objects_reads : Reads (ObjectsAt n) most size StopsObjects (read_objects size left)
   unfolding read_objects

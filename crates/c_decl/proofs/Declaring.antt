@@ -1,4 +1,4 @@
--- The readers of declared objects with their initialisers, whole and behind their names: each is read, and what is read is one.
+-- The readers of declared objects with their initialisers, whole and after their names: each is read, and what is read is one.
 use Rattle.std.proofs.Common.{◌≡◌, ℕ, ◌+◌, Bool, true, false, List, [], ◌∷◌, ◌++◌, map, Option, Some, None, refl, sym, ap, ◌∙◌, subst, codes}
 use Rattle.std.proofs.lemmas.List.{append_assoc, append-nil}
 use Rattle.std.specs.List.{list_all}
@@ -18,8 +18,8 @@ use Rattle.c_tree.specs.declared.statements.Initialization.{Initialization}
 use Rattle.c_tree.specs.declared.statements.InitDeclarator.{InitDeclarator}
 use Rattle.c_reader.specs.Reading.{Reader, ◌>>=◌, give}
 use Rattle.c_reader.specs.Tokens.{is_mark, is_spelled, is_kind, spelled_by, found_by, found_in}
-use Rattle.c_expr.specs.Tokens.{goes_by, suffix_by}
-use Rattle.c_expr.specs.Levels.{readers_at}
+use Rattle.c_grammar.specs.Tokens.{goes_by, suffix_by}
+use Rattle.c_grammar.specs.Levels.{readers_at}
 use Rattle.c_reader.proofs.Reader.{Language, Of, Reads}
 use Rattle.c_reader.proofs.Binding.{Both, bind_reads}
 use Rattle.c_reader.proofs.Giving.{Given, give_reads, reads_as}
@@ -30,11 +30,11 @@ use Rattle.c_reader.proofs.Beginning.{Begins, begins_both, begins_single, SomeOf
 use Rattle.c_reader.proofs.Joining.{in_both, in_single, in_given, onto, join2}
 use Rattle.c_reader.proofs.Listing.{AllOf}
 use Rattle.c_reader.proofs.Spelt.{by_text, spelt_at, named, named_reads}
-use Rattle.c_expr.proofs.Suffixes.{Stops, Any, no_name}
-use Rattle.c_expr.proofs.Dimensioning.{StopsDimensions, dimensions_reads}
-use Rattle.c_expr.proofs.Levels.{all_read}
+use Rattle.c_grammar.proofs.Suffixes.{Stops, Any, no_name}
+use Rattle.c_grammar.proofs.Dimensioning.{StopsDimensions, dimensions_reads}
+use Rattle.c_grammar.proofs.Levels.{all_read}
 use Rattle.c_reader.proofs.Truths.{and_left, and_right, and_both}
-use Rattle.c_decl.specs.Declarations.{read_init, read_started, read_start, read_declarator_behind, read_declarator}
+use Rattle.c_decl.specs.Declarations.{read_init, read_started, read_start, read_declarator_after, read_declarator}
 use Rattle.c_decl.proofs.Ending.{Ends, end_from}
 use Rattle.c_decl.proofs.Refusing.{spelt_at_bind}
 use Rattle.c_decl.proofs.Pointing.{PointerAt, StopsPointer, pointer_goes_by, some_pointer, pointer_reads}
@@ -50,16 +50,16 @@ DeclaratorAt n = Of is_declarator (λ d. wants_of_declarator d n)
 abbrev pub StopsDeclarator : List Token → Type 0
 StopsDeclarator = Ends (codes ",") (codes ";")
 
--- what stands behind a declared name
-abbrev pub wants_behind : InitDeclarator → Wants
-wants_behind d n = all_of (map wants_of_dimension d.dimensions) n ++ wants_of_start d.start n
+-- what stands after a declared name
+abbrev pub wants_following : InitDeclarator → Wants
+wants_following d n = all_of (map wants_of_dimension d.dimensions) n ++ wants_of_start d.start n
 
--- the declared objects of this pointer and name, with what stands behind the name
-pub record DeclaratorBehind (n : ℕ) (pointer : Option Pointer) (name : Identifier) (d : InitDeclarator) (pieces : List Piece) : Type 0 where
+-- the declared objects of this pointer and name, with what stands after the name
+pub record DeclaratorFollowed (n : ℕ) (pointer : Option Pointer) (name : Identifier) (d : InitDeclarator) (pieces : List Piece) : Type 0 where
   pub pointer_is : d.pointer ≡ pointer
   pub name_is : d.name ≡ name
   pub grammar : is_declarator d ≡ true
-  pub wants : pieces ≡ wants_behind d n
+  pub wants : pieces ≡ wants_following d n
 
 abbrev started : Place → Initializer → Option Initialization
 started place value = Some (record { place = place; value = value })
@@ -84,13 +84,13 @@ pub name_begins : {C : Type 0} (n : ℕ) (K : Identifier → Language C) (by : T
 unfolding IsWanted
 name_begins n K by b is = begins_both _ _ (λ w. by w.kind w.text) b (begins_single (named Name n) (λ w. by w.kind w.text) b (λ name w takes. ap (λ k. by k w.text) takes.0.0 ∙ is w.text))
 
--- a name behind a pointer stops it
+-- a name after a pointer stops it
 pub name_stops : {C : Type 0} (n : ℕ) (K : Identifier → Language C) → Begins (Both (Single (named Name n)) K) (λ w. pointer_goes_by w.kind w.text) false
 unfolding pointer_goes_by spelled_by
 name_stops n K = name_begins n K pointer_goes_by false (λ t. refl)
 
 module _ (n : ℕ) where
-  -- ---- initialisers behind their marks
+  -- ---- initialisers after their marks
 
   abbrev StartedL : Language (Option Initialization)
   StartedL = Both (Single (spelt_at Mark (codes "=") n)) (λ place. Both (InitAt n) (λ value. Given (started place value)))
@@ -131,7 +131,7 @@ module _ (n : ℕ) where
   start_stops s ps ys rest (this b) fits stop = started_begins (spelled_by Mark (codes "[")) false refl s ps ys rest b fits
   start_stops s ps ys rest (that g) fits stop = given_stops None s ps ys rest StopsDimensions g fits (end_is_no_dimension rest stop)
 
-  -- ---- what stands behind a name
+  -- ---- what stands after a name
 
   abbrev DimensionsAt : Language (List Dimension)
   DimensionsAt = AllOf is_dimension_tree wants_of_dimension n
@@ -139,30 +139,30 @@ module _ (n : ℕ) where
   abbrev AfterL : Option Pointer → Identifier → List Dimension → Language InitDeclarator
   AfterL pointer name dimensions = Both (StartAt n) (λ start. Given (declared pointer name dimensions start))
 
-  abbrev BehindL : Option Pointer → Identifier → Language InitDeclarator
-  BehindL pointer name = Both DimensionsAt (AfterL pointer name)
+  abbrev FollowedL : Option Pointer → Identifier → Language InitDeclarator
+  FollowedL pointer name = Both DimensionsAt (AfterL pointer name)
 
-  behind_to : (pointer : Option Pointer) (name : Identifier) (d : InitDeclarator) (ps : List Piece) → BehindL pointer name d ps → DeclaratorBehind n pointer name d ps
+  following_to : (pointer : Option Pointer) (name : Identifier) (d : InitDeclarator) (ps : List Piece) → FollowedL pointer name d ps → DeclaratorFollowed n pointer name d ps
   unfolding is_declarator
-  behind_to pointer name d ps b =
+  following_to pointer name d ps b =
       let is : d ≡ declared pointer name b.first b.right.first = b.right.right.tree_is in
       record {
         pointer_is = ap (λ u. u.pointer) is;
         name_is = ap (λ u. u.name) is;
         grammar = ap is_declarator is ∙ and_both (list_all is_dimension_tree b.first) (is_start b.right.first) b.left.grammar b.right.left.grammar;
-        wants = onto b.whole b.left.wants (onto b.right.whole b.right.left.wants b.right.right.none) ∙ join2 (all_of (map wants_of_dimension b.first) n) (wants_of_start b.right.first n) ∙ ap (λ u. wants_behind u n) (sym is);
+        wants = onto b.whole b.left.wants (onto b.right.whole b.right.left.wants b.right.right.none) ∙ join2 (all_of (map wants_of_dimension b.first) n) (wants_of_start b.right.first n) ∙ ap (λ u. wants_following u n) (sym is);
       }
 
-  behind_own : (d : InitDeclarator) (ps : List Piece) → is_declarator d ≡ true → ps ≡ wants_behind d n → BehindL d.pointer d.name d ps
+  following_own : (d : InitDeclarator) (ps : List Piece) → is_declarator d ≡ true → ps ≡ wants_following d n → FollowedL d.pointer d.name d ps
   unfolding is_declarator
-  behind_own d ps grammar wants =
-      subst (λ u. BehindL d.pointer d.name d u) (join2 (all_of (map wants_of_dimension d.dimensions) n) (wants_of_start d.start n) ∙ sym wants)
+  following_own d ps grammar wants =
+      subst (λ u. FollowedL d.pointer d.name d u) (join2 (all_of (map wants_of_dimension d.dimensions) n) (wants_of_start d.start n) ∙ sym wants)
       (in_both _ _ _ _ _ d.dimensions (record { grammar = and_left (list_all is_dimension_tree d.dimensions) (is_start d.start) grammar; wants = refl })
       (in_both _ _ _ _ _ d.start (record { grammar = and_right (list_all is_dimension_tree d.dimensions) (is_start d.start) grammar; wants = refl }) (in_given d)))
 
-  behind_from : (pointer : Option Pointer) (name : Identifier) (d : InitDeclarator) (ps : List Piece) → DeclaratorBehind n pointer name d ps → BehindL pointer name d ps
-  behind_from pointer name d ps is =
-      subst (λ u. BehindL u name d ps) is.pointer_is (subst (λ u. BehindL d.pointer u d ps) is.name_is (behind_own d ps is.grammar is.wants))
+  following_from : (pointer : Option Pointer) (name : Identifier) (d : InitDeclarator) (ps : List Piece) → DeclaratorFollowed n pointer name d ps → FollowedL pointer name d ps
+  following_from pointer name d ps is =
+      subst (λ u. FollowedL u name d ps) is.pointer_is (subst (λ u. FollowedL d.pointer u d ps) is.name_is (following_own d ps is.grammar is.wants))
 
   some_after : (pointer : Option Pointer) (name : Identifier) (dimensions : List Dimension) → SomeOf (AfterL pointer name dimensions)
   some_after pointer name dimensions = some_both _ _ some_start (λ start. some_given (declared pointer name dimensions start))
@@ -171,10 +171,10 @@ module _ (n : ℕ) where
   unfolding all_of
   some_dimensions = ([], ([], record { grammar = refl; wants = refl }))
 
-  pub some_declarator_behind : (pointer : Option Pointer) (name : Identifier) → SomeOf (DeclaratorBehind n pointer name)
-  some_declarator_behind pointer name =
+  pub some_declarator_following : (pointer : Option Pointer) (name : Identifier) → SomeOf (DeclaratorFollowed n pointer name)
+  some_declarator_following pointer name =
       let x = some_both DimensionsAt (AfterL pointer name) some_dimensions (some_after pointer name) in
-      (x.0, (x.1.0, behind_to pointer name x.0 x.1.0 x.1.1))
+      (x.0, (x.1.0, following_to pointer name x.0 x.1.0 x.1.1))
 
   after_stops : (pointer : Option Pointer) (name : Identifier) (dimensions : List Dimension) (d : InitDeclarator) (qs : List Piece) (ys rest : List Token) → AfterL pointer name dimensions d qs → Fits qs ys → StopsDeclarator rest → StopsDimensions (ys ++ rest)
   after_stops pointer name dimensions d qs ys rest b fits stop =
@@ -184,23 +184,23 @@ module _ (n : ℕ) where
   -- ---- whole declared objects
 
   abbrev NamedL : Option Pointer → Language InitDeclarator
-  NamedL pointer = Both (Single (named Name n)) (λ name. DeclaratorBehind n pointer name)
+  NamedL pointer = Both (Single (named Name n)) (λ name. DeclaratorFollowed n pointer name)
 
   abbrev DeclaratorL : Language InitDeclarator
   DeclaratorL = Both (PointerAt n) NamedL
 
-  -- a declared object is a pointer, a name and what stands behind it
-  pub declarator_flat : (d : InitDeclarator) → wants_of_pointer d.pointer n ++ (name d.name n ++ wants_behind d n) ≡ wants_of_declarator d n
+  -- a declared object is a pointer, a name and what stands after it
+  pub declarator_flat : (d : InitDeclarator) → wants_of_pointer d.pointer n ++ (name d.name n ++ wants_following d n) ≡ wants_of_declarator d n
   unfolding wants_of_declarator
   declarator_flat d =
-      sym (append_assoc (wants_of_pointer d.pointer n) (name d.name n) (wants_behind d n)) ∙ sym (append_assoc (wants_of_pointer d.pointer n ++ name d.name n) (all_of (map wants_of_dimension d.dimensions) n) (wants_of_start d.start n))
+      sym (append_assoc (wants_of_pointer d.pointer n) (name d.name n) (wants_following d n)) ∙ sym (append_assoc (wants_of_pointer d.pointer n ++ name d.name n) (all_of (map wants_of_dimension d.dimensions) n) (wants_of_start d.start n))
 
   declarator_to : (d : InitDeclarator) (ps : List Piece) → DeclaratorL d ps → DeclaratorAt n d ps
   declarator_to d ps b =
-      let behind = b.right.right in
+      let following = b.right.right in
       record {
-        grammar = behind.grammar;
-        wants = onto b.whole (b.left.wants ∙ ap (λ u. wants_of_pointer u n) (sym behind.pointer_is)) (onto b.right.whole (b.right.left.one ∙ ap (λ u. name u n) (sym behind.name_is)) behind.wants) ∙ declarator_flat d;
+        grammar = following.grammar;
+        wants = onto b.whole (b.left.wants ∙ ap (λ u. wants_of_pointer u n) (sym following.pointer_is)) (onto b.right.whole (b.right.left.one ∙ ap (λ u. name u n) (sym following.name_is)) following.wants) ∙ declarator_flat d;
       }
 
   declarator_from : (d : InitDeclarator) (ps : List Piece) → DeclaratorAt n d ps → DeclaratorL d ps
@@ -210,7 +210,7 @@ module _ (n : ℕ) where
       (in_both _ _ _ _ _ d.name (in_single (named Name n) d.name) (record { pointer_is = refl; name_is = refl; grammar = is.grammar; wants = refl })))
 
   some_named : (pointer : Option Pointer) → SomeOf (NamedL pointer)
-  some_named pointer = some_both _ _ (some_single (named Name n) no_name) (some_declarator_behind pointer)
+  some_named pointer = some_both _ _ (some_single (named Name n) no_name) (some_declarator_following pointer)
 
   pub some_declarator : SomeOf (DeclaratorAt n)
   some_declarator =
@@ -239,10 +239,10 @@ module _ (most size n left : ℕ) (level : n + left ≡ most + 1) where
       (λ s ps front rest is fits stop. started_begins n (spelled_by Mark (codes "=")) true refl s ps front rest is fits)
       (λ s ps front rest is fits stop. given_stops None s ps front rest (FirstIs (is_mark (codes "=")) false) is fits (end_is_no_equals rest stop)))
 
-  pub declarator_behind_reads : (pointer : Option Pointer) (name : Identifier) → Reads (DeclaratorBehind n pointer name) most size StopsDeclarator (read_declarator_behind size left pointer name)
-  unfolding read_declarator_behind
-  declarator_behind_reads pointer name =
-      reads_as (behind_to n pointer name) (behind_from n pointer name)
+  pub declarator_following_reads : (pointer : Option Pointer) (name : Identifier) → Reads (DeclaratorFollowed n pointer name) most size StopsDeclarator (read_declarator_after size left pointer name)
+  unfolding read_declarator_after
+  declarator_following_reads pointer name =
+      reads_as (following_to n pointer name) (following_from n pointer name)
       (bind_reads _ _ most size StopsDimensions StopsDeclarator _ _ (dimensions_reads most size n left level (readers_at size left).expr (all_read most size left n level).expr)
       (λ dimensions. bind_reads _ _ most size StopsDeclarator StopsDeclarator _ _ start_reads (λ start. give_reads (declared pointer name dimensions start) most size StopsDeclarator)
       (λ start ps is. some_given (declared pointer name dimensions start))
@@ -255,8 +255,8 @@ module _ (most size n left : ℕ) (level : n + left ≡ most + 1) where
   declarator_reads =
       reads_as (declarator_to n) (declarator_from n)
       (bind_reads _ _ most size StopsPointer StopsDeclarator _ _ (pointer_reads most size n left level)
-      (λ pointer. bind_reads _ _ most size Any StopsDeclarator _ _ (named_reads most size Any Name n left level) (declarator_behind_reads pointer)
-      (λ name ps is. some_declarator_behind n pointer name)
+      (λ pointer. bind_reads _ _ most size Any StopsDeclarator _ _ (named_reads most size Any Name n left level) (declarator_following_reads pointer)
+      (λ name ps is. some_declarator_following n pointer name)
       (λ name c qs ys rest is fits stop. tt))
       (λ pointer ps is. some_named n pointer)
-      (λ pointer c qs ys rest is fits stop. name_stops n (λ name. DeclaratorBehind n pointer name) c qs ys rest is fits))
+      (λ pointer c qs ys rest is fits stop. name_stops n (λ name. DeclaratorFollowed n pointer name) c qs ys rest is fits))

@@ -16,8 +16,8 @@ use Rattle.c_tree.specs.declared.statements.ExpressionStatement.{ExpressionState
 use Rattle.c_tree.specs.declared.statements.ExpressionStatement.TheVariants as simple
 use Rattle.c_reader.specs.Reading.{Reader, ◌>>=◌, give, choose}
 use Rattle.c_reader.specs.Tokens.{is_kind, spelled_by, found_by, found_in, found_of}
-use Rattle.c_expr.specs.Tokens.{goes_on, goes_by, suffix_by}
-use Rattle.c_expr.specs.Levels.{readers_at}
+use Rattle.c_grammar.specs.Tokens.{goes_on, goes_by, suffix_by}
+use Rattle.c_grammar.specs.Levels.{readers_at}
 use Rattle.c_reader.proofs.Reader.{Language, Of, Reads}
 use Rattle.c_reader.proofs.Binding.{Both, bind_reads}
 use Rattle.c_reader.proofs.Giving.{Given, give_reads, reads_as}
@@ -26,14 +26,14 @@ use Rattle.c_reader.proofs.Choosing.{FirstIs, Either, this, that, choose_reads}
 use Rattle.c_reader.proofs.Repeating.{given_stops}
 use Rattle.c_reader.proofs.Beginning.{Begins, begins_both, begins_either, SomeOf, some_both, some_single, some_given}
 use Rattle.c_reader.proofs.Joining.{in_both, in_single, in_given, onto, join2, join3}
-use Rattle.c_expr.proofs.Starting.{Suits, begins_at}
-use Rattle.c_expr.proofs.Suffixes.{At, Stops, Any, some_at}
-use Rattle.c_expr.proofs.Primaries.{prefix_all}
-use Rattle.c_expr.proofs.Unaries.{lower_to}
-use Rattle.c_expr.proofs.Levels.{all_read}
+use Rattle.c_grammar.proofs.Starting.{Suits, begins_at}
+use Rattle.c_grammar.proofs.Suffixes.{At, Stops, Any, some_at}
+use Rattle.c_grammar.proofs.Primaries.{prefix_all}
+use Rattle.c_grammar.proofs.Unaries.{lower_to}
+use Rattle.c_grammar.proofs.Levels.{all_read}
 use Rattle.c_reader.proofs.Truths.{not_true, and_left, and_right, and_both}
 use Rattle.c_decl.specs.Marks.{assigns, assign_of, is_assign, steps, step_of, is_step, step_at}
-use Rattle.c_decl.specs.ExpressionStatements.{is_postfix, read_assigned, read_stepped, read_simple_behind, read_before, read_simple}
+use Rattle.c_decl.specs.ExpressionStatements.{is_postfix, read_assigned, read_stepped, read_simple_after, read_before, read_simple}
 use Rattle.c_decl.proofs.Callable.{kinds}
 use Rattle.c_decl.proofs.Ending.{Ends, end_from}
 use Rattle.c_decl.proofs.Marks.{assign_piece, step_piece, assign_all, step_all, assign_reads, step_is, step_takes, some_assign, some_step, step_reads, assign_begins, step_begins}
@@ -69,7 +69,7 @@ end_stops : (level : ℕ) → goes_by level Mark (codes ";") ≡ false → goes_
 end_stops level = end_from (codes ";") (codes ")") (goes_by level) false
 
 module _ (n : ℕ) where
-  -- ---- what stands behind a unary expression
+  -- ---- what stands after a unary expression
 
   abbrev AssignedL : Expr → Language ExpressionStatement
   AssignedL target = Both (Single (assign_piece n)) (λ mark. Both (At 0 n) (λ value. Given (simple.Assignment target mark.0 mark.1 value)))
@@ -81,18 +81,18 @@ module _ (n : ℕ) where
   CallL target = Given (simple.Call target)
 
   -- by whether the expression is a call, and whether it is a postfix one
-  abbrev BehindL : Bool → Bool → Expr → Language ExpressionStatement
-  BehindL true postfix target = Either (AssignedL target) (Either (SteppedL target) (CallL target))
-  BehindL false true target = Either (SteppedL target) (AssignedL target)
-  BehindL false false target = AssignedL target
+  abbrev FollowedL : Bool → Bool → Expr → Language ExpressionStatement
+  FollowedL true postfix target = Either (AssignedL target) (Either (SteppedL target) (CallL target))
+  FollowedL false true target = Either (SteppedL target) (AssignedL target)
+  FollowedL false false target = AssignedL target
 
   some_assigned : (target : Expr) → SomeOf (AssignedL target)
   some_assigned target = some_both _ _ (some_single (assign_piece n) some_assign) (λ mark. some_both _ _ (some_at 0 n (omega arith)) (λ value. some_given (simple.Assignment target mark.0 mark.1 value)))
 
-  some_behind : (call postfix : Bool) (target : Expr) → SomeOf (BehindL call postfix target)
-  some_behind true postfix target = let x = some_assigned target in (x.0, (x.1.0, this x.1.1))
-  some_behind false true target = let x = some_assigned target in (x.0, (x.1.0, that x.1.1))
-  some_behind false false target = some_assigned target
+  some_following : (call postfix : Bool) (target : Expr) → SomeOf (FollowedL call postfix target)
+  some_following true postfix target = let x = some_assigned target in (x.0, (x.1.0, this x.1.1))
+  some_following false true target = let x = some_assigned target in (x.0, (x.1.0, that x.1.1))
+  some_following false false target = some_assigned target
 
   assigned_begins : (by : TokenKind → List ℕ → Bool) (b : Bool) → ((m : AssignmentOperator) → by Mark (text_of_assign m) ≡ b) → (target : Expr) → Begins (AssignedL target) (λ w. by w.kind w.text) b
   assigned_begins by b is target = begins_both _ _ (λ w. by w.kind w.text) b (assign_begins n by b is)
@@ -128,13 +128,13 @@ module _ (n : ℕ) where
   unfolding goes_by suffix_by spelled_by found_by found_in
   call_stops target t qs ys rest is fits stop = given_stops (simple.Call target) t qs ys rest (Stops 11) is fits (end_stops 11 refl refl rest stop)
 
-  behind_stops : (call postfix : Bool) (target : Expr) (t : ExpressionStatement) (qs : List Piece) (ys rest : List Token) → BehindL call postfix target t qs → Fits qs ys → StopsSimple rest → Stops 11 (ys ++ rest)
-  behind_stops true postfix target t qs ys rest (this b) fits stop = assign_stops target t qs ys rest b fits
-  behind_stops true postfix target t qs ys rest (that (this b)) fits stop = step_stops target t qs ys rest b fits
-  behind_stops true postfix target t qs ys rest (that (that b)) fits stop = call_stops target t qs ys rest b fits stop
-  behind_stops false true target t qs ys rest (this b) fits stop = step_stops target t qs ys rest b fits
-  behind_stops false true target t qs ys rest (that b) fits stop = assign_stops target t qs ys rest b fits
-  behind_stops false false target t qs ys rest b fits stop = assign_stops target t qs ys rest b fits
+  following_stops : (call postfix : Bool) (target : Expr) (t : ExpressionStatement) (qs : List Piece) (ys rest : List Token) → FollowedL call postfix target t qs → Fits qs ys → StopsSimple rest → Stops 11 (ys ++ rest)
+  following_stops true postfix target t qs ys rest (this b) fits stop = assign_stops target t qs ys rest b fits
+  following_stops true postfix target t qs ys rest (that (this b)) fits stop = step_stops target t qs ys rest b fits
+  following_stops true postfix target t qs ys rest (that (that b)) fits stop = call_stops target t qs ys rest b fits stop
+  following_stops false true target t qs ys rest (this b) fits stop = step_stops target t qs ys rest b fits
+  following_stops false true target t qs ys rest (that b) fits stop = assign_stops target t qs ys rest b fits
+  following_stops false false target t qs ys rest b fits stop = assign_stops target t qs ys rest b fits
 
   step_or_call : (target : Expr) (t : ExpressionStatement) (qs : List Piece) (ys rest : List Token) → Either (SteppedL target) (CallL target) t qs → Fits qs ys → StopsSimple rest → FirstIs is_assign false (ys ++ rest)
   step_or_call target t qs ys rest (this b) fits stop = step_is_no_assign target t qs ys rest b fits
@@ -146,7 +146,7 @@ module _ (n : ℕ) where
   BeforeL = Both (Single (step_piece n)) (λ mark. Both (At 11 (n + 1)) (λ target. Given (simple.PrefixStep mark.0 mark.1 target)))
 
   abbrev AfterL : Language ExpressionStatement
-  AfterL = Both (At 11 n) (λ target. BehindL (is_call target) (is_postfix target) target)
+  AfterL = Both (At 11 n) (λ target. FollowedL (is_call target) (is_postfix target) target)
 
   abbrev SimpleL : Language ExpressionStatement
   SimpleL = Either BeforeL AfterL
@@ -198,52 +198,52 @@ module _ (n : ℕ) where
         wants = ap (λ u. wants_of_expr target n ++ u) is.none ∙ append-nil (wants_of_expr target n) ∙ ap (λ u. wants_of_simple u n) (sym is.tree_is);
       }
 
-  behind_to : (call postfix : Bool) (target : Expr) → is_call target ≡ call → is_postfix target ≡ postfix → binds target 11 ≡ true → (t : ExpressionStatement) (qs : List Piece) → BehindL call postfix target t qs → SimpleAt n t (wants_of_expr target n ++ qs)
-  behind_to true postfix target is_c is_p h t qs (this b) = assigned_to target h t qs b
-  behind_to true postfix target is_c is_p h t qs (that (this b)) = stepped_to target ((kinds target).postfix_binds ((kinds target).call_postfix is_c) h) t qs b
-  behind_to true postfix target is_c is_p h t qs (that (that b)) = call_to target ((kinds target).call_binds is_c h) is_c t qs b
-  behind_to false true target is_c is_p h t qs (this b) = stepped_to target ((kinds target).postfix_binds is_p h) t qs b
-  behind_to false true target is_c is_p h t qs (that b) = assigned_to target h t qs b
-  behind_to false false target is_c is_p h t qs b = assigned_to target h t qs b
+  following_to : (call postfix : Bool) (target : Expr) → is_call target ≡ call → is_postfix target ≡ postfix → binds target 11 ≡ true → (t : ExpressionStatement) (qs : List Piece) → FollowedL call postfix target t qs → SimpleAt n t (wants_of_expr target n ++ qs)
+  following_to true postfix target is_c is_p h t qs (this b) = assigned_to target h t qs b
+  following_to true postfix target is_c is_p h t qs (that (this b)) = stepped_to target ((kinds target).postfix_binds ((kinds target).call_postfix is_c) h) t qs b
+  following_to true postfix target is_c is_p h t qs (that (that b)) = call_to target ((kinds target).call_binds is_c h) is_c t qs b
+  following_to false true target is_c is_p h t qs (this b) = stepped_to target ((kinds target).postfix_binds is_p h) t qs b
+  following_to false true target is_c is_p h t qs (that b) = assigned_to target h t qs b
+  following_to false false target is_c is_p h t qs b = assigned_to target h t qs b
 
   simple_to : (t : ExpressionStatement) (ps : List Piece) → SimpleL t ps → SimpleAt n t ps
   simple_to t ps (this b) = before_to t ps b
   simple_to t ps (that b) =
-      subst (λ u. SimpleAt n t u) (sym (b.whole ∙ ap (λ u. u ++ b.pieces2) b.left.wants)) (behind_to (is_call b.first) (is_postfix b.first) b.first refl refl b.left.grammar t b.pieces2 b.right)
+      subst (λ u. SimpleAt n t u) (sym (b.whole ∙ ap (λ u. u ++ b.pieces2) b.left.wants)) (following_to (is_call b.first) (is_postfix b.first) b.first refl refl b.left.grammar t b.pieces2 b.right)
 
-  assigned_behind : (call postfix : Bool) (target : Expr) (t : ExpressionStatement) (qs : List Piece) → AssignedL target t qs → BehindL call postfix target t qs
-  assigned_behind true postfix target t qs b = this b
-  assigned_behind false true target t qs b = that b
-  assigned_behind false false target t qs b = b
+  assigned_following : (call postfix : Bool) (target : Expr) (t : ExpressionStatement) (qs : List Piece) → AssignedL target t qs → FollowedL call postfix target t qs
+  assigned_following true postfix target t qs b = this b
+  assigned_following false true target t qs b = that b
+  assigned_following false false target t qs b = b
 
-  stepped_behind : (call postfix : Bool) (target : Expr) (t : ExpressionStatement) (qs : List Piece) → postfix ≡ true → SteppedL target t qs → BehindL call postfix target t qs
-  stepped_behind true postfix target t qs is b = that (this b)
-  stepped_behind false true target t qs is b = this b
-  stepped_behind false false target t qs is b = absurd (not_true is)
+  stepped_following : (call postfix : Bool) (target : Expr) (t : ExpressionStatement) (qs : List Piece) → postfix ≡ true → SteppedL target t qs → FollowedL call postfix target t qs
+  stepped_following true postfix target t qs is b = that (this b)
+  stepped_following false true target t qs is b = this b
+  stepped_following false false target t qs is b = absurd (not_true is)
 
-  call_behind : (call postfix : Bool) (target : Expr) (t : ExpressionStatement) (qs : List Piece) → call ≡ true → CallL target t qs → BehindL call postfix target t qs
-  call_behind true postfix target t qs is b = that (that b)
-  call_behind false postfix target t qs is b = absurd (not_true is)
+  call_following : (call postfix : Bool) (target : Expr) (t : ExpressionStatement) (qs : List Piece) → call ≡ true → CallL target t qs → FollowedL call postfix target t qs
+  call_following true postfix target t qs is b = that (that b)
+  call_following false postfix target t qs is b = absurd (not_true is)
 
   simple_from : (t : ExpressionStatement) (ps : List Piece) → SimpleAt n t ps → SimpleL t ps
   unfolding is_simple wants_of_simple
   simple_from (simple.Assignment target place mark value) ps is =
       that (subst (λ u. AfterL (simple.Assignment target place mark value) u) (join3 (wants_of_expr target n) (assign_piece n (place, mark) ∷ []) (wants_of_expr value n) ∙ sym is.wants)
       (in_both _ _ _ _ _ target (record { grammar = and_left (binds target 11) (binds value 0) is.grammar; wants = refl })
-      (assigned_behind (is_call target) (is_postfix target) target _ _
+      (assigned_following (is_call target) (is_postfix target) target _ _
       (in_both _ _ _ _ _ (place, mark) (in_single (assign_piece n) (place, mark))
       (in_both _ _ _ _ _ value (record { grammar = and_right (binds target 11) (binds value 0) is.grammar; wants = refl }) (in_given (simple.Assignment target place mark value)))))))
   simple_from (simple.PostfixStep target place mark) ps is =
       that (subst (λ u. AfterL (simple.PostfixStep target place mark) u) (sym is.wants)
       (in_both _ _ _ _ _ target (record { grammar = lower_to 11 12 (omega arith) target is.grammar; wants = refl })
-      (stepped_behind (is_call target) (is_postfix target) target _ _ ((kinds target).binds_postfix is.grammar) (in_both _ _ _ _ _ (place, mark) (in_single (step_piece n) (place, mark)) (in_given (simple.PostfixStep target place mark))))))
+      (stepped_following (is_call target) (is_postfix target) target _ _ ((kinds target).binds_postfix is.grammar) (in_both _ _ _ _ _ (place, mark) (in_single (step_piece n) (place, mark)) (in_given (simple.PostfixStep target place mark))))))
   simple_from (simple.PrefixStep place mark target) ps is =
       this (subst (λ u. BeforeL (simple.PrefixStep place mark target) u) (join2 (step_piece n (place, mark) ∷ []) (wants_of_expr target (n + 1)) ∙ sym is.wants)
       (in_both _ _ _ _ _ (place, mark) (in_single (step_piece n) (place, mark)) (in_both _ _ _ _ _ target (record { grammar = is.grammar; wants = refl }) (in_given (simple.PrefixStep place mark target)))))
   simple_from (simple.Call call) ps is =
       that (subst (λ u. AfterL (simple.Call call) u) (append-nil (wants_of_expr call n) ∙ sym is.wants)
       (in_both _ _ _ _ _ call (record { grammar = lower_to 11 13 (omega arith) call (and_left (binds call 13) (is_call call) is.grammar); wants = refl })
-      (call_behind (is_call call) (is_postfix call) call _ _ (and_right (binds call 13) (is_call call) is.grammar) (in_given (simple.Call call)))))
+      (call_following (is_call call) (is_postfix call) call _ _ (and_right (binds call 13) (is_call call) is.grammar) (in_given (simple.Call call)))))
 
   pub some_simple : SomeOf (SimpleAt n)
   some_simple =
@@ -275,13 +275,13 @@ module _ (most size n left : ℕ) (level : n + left ≡ most + 1) where
       (λ mark ps is. some_given (simple.PostfixStep target mark.0 mark.1))
       (λ mark c qs ys rest is fits stop. tt)
 
-  abbrev behind_reader : Bool → Bool → Expr → Reader ExpressionStatement
-  behind_reader call postfix target =
+  abbrev following_reader : Bool → Bool → Expr → Reader ExpressionStatement
+  following_reader call postfix target =
       if call then choose is_assign (read_assigned size left target) (choose is_step (read_stepped left target) (give (simple.Call target)))
       else (if postfix then choose is_step (read_stepped left target) (read_assigned size left target) else read_assigned size left target)
 
-  behind_read : (call postfix : Bool) (target : Expr) → Reads (BehindL n call postfix target) most size StopsSimple (behind_reader call postfix target)
-  behind_read true postfix target =
+  following_read : (call postfix : Bool) (target : Expr) → Reads (FollowedL n call postfix target) most size StopsSimple (following_reader call postfix target)
+  following_read true postfix target =
       choose_reads (AssignedL n target) (Either (SteppedL n target) (CallL n target)) most size StopsSimple is_assign (read_assigned size left target) (choose is_step (read_stepped left target) (give (simple.Call target)))
       (assigned_read target)
       (choose_reads (SteppedL n target) (CallL n target) most size StopsSimple is_step (read_stepped left target) (give (simple.Call target)) (stepped_read target) (give_reads (simple.Call target) most size StopsSimple)
@@ -289,11 +289,11 @@ module _ (most size n left : ℕ) (level : n + left ≡ most + 1) where
       (λ t ps front rest is fits stop. given_stops (simple.Call target) t ps front rest (FirstIs is_step false) is fits (end_is_no_step rest stop)))
       (λ t ps front rest is fits stop. assign_is_assign n target t ps front rest is fits)
       (λ t ps front rest is fits stop. step_or_call n target t ps front rest is fits stop)
-  behind_read false true target =
+  following_read false true target =
       choose_reads (SteppedL n target) (AssignedL n target) most size StopsSimple is_step (read_stepped left target) (read_assigned size left target) (stepped_read target) (assigned_read target)
       (λ t ps front rest is fits stop. step_is_step n target t ps front rest is fits)
       (λ t ps front rest is fits stop. assign_is_no_step n target t ps front rest is fits)
-  behind_read false false target = assigned_read target
+  following_read false false target = assigned_read target
 
   before_read : Reads (BeforeL n) most size StopsSimple (read_before size left)
   unfolding read_before goes_by suffix_by spelled_by found_by found_in
@@ -303,18 +303,18 @@ module _ (most size n left : ℕ) (level : n + left ≡ most + 1) where
       (λ target ps is. some_given (simple.PrefixStep mark.0 mark.1 target))
       (λ target c qs ys rest is fits stop. given_stops (simple.PrefixStep mark.0 mark.1 target) c qs ys rest (Stops 11) is fits (end_stops 11 refl refl rest stop)))
 
-  after_read : Reads (AfterL n) most size StopsSimple ((readers_at size left).unary >>= read_simple_behind size left)
-  unfolding read_simple_behind
+  after_read : Reads (AfterL n) most size StopsSimple ((readers_at size left).unary >>= read_simple_after size left)
+  unfolding read_simple_after
   after_read =
       bind_reads _ _ most size (Stops 11) StopsSimple _ _ (all_read most size left n level).unary
-      (λ target. behind_read (is_call target) (is_postfix target) target)
-      (λ target ps is. some_behind n (is_call target) (is_postfix target) target)
-      (λ target c qs ys rest is fits stop. behind_stops n (is_call target) (is_postfix target) target c qs ys rest is fits stop)
+      (λ target. following_read (is_call target) (is_postfix target) target)
+      (λ target ps is. some_following n (is_call target) (is_postfix target) target)
+      (λ target c qs ys rest is fits stop. following_stops n (is_call target) (is_postfix target) target c qs ys rest is fits stop)
 
   simple_read : Reads (SimpleL n) most size StopsSimple (read_simple size left)
   unfolding read_simple step_of found_of is_kind found_by found_in
   simple_read =
-      choose_reads (BeforeL n) (AfterL n) most size StopsSimple is_step (read_before size left) ((readers_at size left).unary >>= read_simple_behind size left) before_read after_read
+      choose_reads (BeforeL n) (AfterL n) most size StopsSimple is_step (read_before size left) ((readers_at size left).unary >>= read_simple_after size left) before_read after_read
       (λ t ps front rest is fits stop. before_begins n step_by true (step_all step_by true refl refl) t ps front rest is fits)
       (λ t ps front rest is fits stop. after_begins n step_by false no_step t ps front rest is fits)
 

@@ -17,7 +17,7 @@ use Rattle.c_reader.proofs.Beginning.{Begins, begins_both, begins_single, SomeOf
 use Rattle.c_reader.proofs.Joining.{in_both, in_single, onto}
 use Rattle.c_reader.proofs.Listing.{separated_rest}
 use Rattle.c_reader.proofs.Spelt.{spelt, spelt_reads, spelled_yes}
-use Rattle.c_expr.proofs.Suffixes.{Any}
+use Rattle.c_grammar.proofs.Suffixes.{Any}
 use Rattle.c_reader.proofs.Truths.{and_left, and_right, and_both}
 
 module _ {A : Type 0} (ok : A → Bool) (f : A → ℕ → List Piece) (n : ℕ) (text : List ℕ) where
@@ -65,7 +65,7 @@ module _ {A : Type 0} (ok : A → Bool) (f : A → ℕ → List Piece) (n : ℕ)
   unfolding separated_rest
   some_rest = ([], ([], record { grammar = refl; wants = refl }))
 
-  -- what stands behind the first part, by what may stand behind the list
+  -- what stands after the first part, by what may stand after the list
   pub rest_stops : {C : Type 0} (make : List A → C) (StopsA Stops : List Token → Type 0) → ((ts : List Token) → FirstIs (is_mark text) true ts → StopsA ts) → ((ts : List Token) → Stops ts → StopsA ts)
       → (c : C) (ps : List Piece) (ys rest : List Token) → Both RestOf (λ trees. Given (make trees)) c ps → Fits ps ys → Stops rest → StopsA (ys ++ rest)
   rest_stops make StopsA Stops goes_on ends c ps ys rest b fits stop =

@@ -5,7 +5,6 @@ use Rattle.c_tree.specs.Declarations.{init_wants, wants_of_init, init_is, is_ini
 use Rattle.c_tree.specs.declared.token.Place.{Place}
 use Rattle.c_tree.specs.declared.expressions.Expr.{Expr}
 use Rattle.c_tree.specs.declared.expressions.TrailingComma.{TrailingComma}
-use Rattle.c_tree.specs.declared.expressions.TrailingComma.TheVariants.{Absent, Present}
 use Rattle.c_tree.specs.declared.statements.Initializer.{Initializer}
 use Rattle.c_tree.specs.declared.statements.Initializer.TheVariants as init
 use Rattle.c_tree.specs.declared.statements.Initializer.TheOpen.{Initializer-F}

@@ -18,9 +18,9 @@ use Rattle.c_tree.specs.declared.statements.Initializer.{Initializer}
 use Rattle.c_tree.specs.declared.statements.Initializer.TheVariants as init
 use Rattle.c_reader.specs.Reading.{Reader, ◌>>=◌, give, choose}
 use Rattle.c_reader.specs.Tokens.{is_mark, is_spelled, is_kind, spelled_by, found_by, found_in, read_mark}
-use Rattle.c_expr.specs.Tokens.{goes_by, suffix_by, expr_by}
+use Rattle.c_grammar.specs.Tokens.{goes_by, suffix_by, expr_by}
 use Rattle.c_reader.specs.Lists.{read_more}
-use Rattle.c_expr.specs.Levels.{readers_at}
+use Rattle.c_grammar.specs.Levels.{readers_at}
 use Rattle.c_reader.proofs.Reader.{Language, Of, Reads}
 use Rattle.c_reader.proofs.Binding.{Both, bind_reads, fits_part}
 use Rattle.c_reader.proofs.Giving.{Given, give_reads, reads_as}
@@ -31,11 +31,11 @@ use Rattle.c_reader.proofs.Beginning.{Begins, begins_both, begins_single, SomeOf
 use Rattle.c_reader.proofs.Joining.{in_both, in_single, in_given, onto, join4}
 use Rattle.c_reader.proofs.Listing.{list_all_map, separated_rest, separated_is}
 use Rattle.c_reader.proofs.Spelt.{by_text, spelled_yes, spelt, spelt_at, spelt_reads}
-use Rattle.c_expr.proofs.Starting.{Suits, begins_at, begins_cons}
-use Rattle.c_expr.proofs.Suffixes.{At, Stops, Any, some_at}
-use Rattle.c_expr.proofs.Primaries.{prefix_all, first_from}
-use Rattle.c_expr.proofs.Enums.{end_if, more_reads}
-use Rattle.c_expr.proofs.Levels.{all_read}
+use Rattle.c_grammar.proofs.Starting.{Suits, begins_at, begins_cons}
+use Rattle.c_grammar.proofs.Suffixes.{At, Stops, Any, some_at}
+use Rattle.c_grammar.proofs.Primaries.{prefix_all, first_from}
+use Rattle.c_grammar.proofs.Enums.{end_if, more_reads}
+use Rattle.c_grammar.proofs.Levels.{all_read}
 use Rattle.c_reader.proofs.Truths.{not_true, and_left, and_right, and_both, has_map}
 use Rattle.c_decl.specs.Declarations.{init_by, starts_init, read_list, read_init}
 use Rattle.c_decl.proofs.Initial.{cases_Initializer, wants_Initializer_Expression, wants_Initializer_List, is_Initializer_Expression, is_Initializer_List}
@@ -88,7 +88,7 @@ no_start : (ts : List Token) → Closed ts → FirstIs starts_init false ts
 unfolding init_by expr_by spelled_by found_by found_in
 no_start = first_from Mark (codes "}") init_by false refl
 
--- ---- the parts behind the first, nested in a list
+-- ---- the parts after the first, nested in a list
 
 module _ (n : ℕ) where
   abbrev RestAt : Language (List Initializer × TrailingComma)
@@ -153,18 +153,18 @@ module _ (n : ℕ) where
   first_stops : (place : Place) (first t : Initializer) (qs : List Piece) (ys more : List Token) → Both (RestAt (n + 1)) (λ rest. EndL (init.List place (first ∷ rest.0) rest.1)) t qs → Fits qs ys → Stops 0 (ys ++ more)
   first_stops place first t qs ys more b fits =
       let parted = fits_part b.pieces1 b.pieces2 ys (subst (λ u. Fits u ys) b.whole fits) in
-      subst (Stops 0) (sym (ap (λ u. u ++ more) parted.whole ∙ append_assoc parted.front parted.behind more))
-      (rest_stops (n + 1) b.first.0 b.first.1 b.pieces1 parted.front (parted.behind ++ more) b.left parted.left (begins_both _ _ (is_mark (codes "}")) true closes t b.pieces2 parted.behind more b.right parted.right))
+      subst (Stops 0) (sym (ap (λ u. u ++ more) parted.whole ∙ append_assoc parted.front parted.following more))
+      (rest_stops (n + 1) b.first.0 b.first.1 b.pieces1 parted.front (parted.following ++ more) b.left parted.left (begins_both _ _ (is_mark (codes "}")) true closes t b.pieces2 parted.following more b.right parted.right))
 
   list_flat : (place : Place) (first : Initializer) (items : List Initializer) (last : TrailingComma)
       → (spelt_at Mark (codes "{") (n + 1) place ∷ []) ++ (wants_of_init first (n + 1) ++ ((separated_rest is_init wants_of_init (n + 1) (codes ",") items ++ comma_if last (n + 1)) ++ ((spelt Mark (codes "}") (n + 1) tt ∷ []) ++ []))) ≡ wants_of_init (init.List place (first ∷ items) last) n
   list_flat place first items last =
       let open_ = spelt_at Mark (codes "{") (n + 1) place ∷ [] in
       let close = spelt Mark (codes "}") (n + 1) tt ∷ [] in
-      let behind = separated_rest is_init wants_of_init (n + 1) (codes ",") items in
+      let following = separated_rest is_init wants_of_init (n + 1) (codes ",") items in
       ap (λ u. open_ ++ u)
-      (ap (λ u. wants_of_init first (n + 1) ++ u) (append_assoc behind (comma_if last (n + 1)) (close ++ []))
-      ∙ sym (append_assoc (wants_of_init first (n + 1)) behind (comma_if last (n + 1) ++ (close ++ [])))
+      (ap (λ u. wants_of_init first (n + 1) ++ u) (append_assoc following (comma_if last (n + 1)) (close ++ []))
+      ∙ sym (append_assoc (wants_of_init first (n + 1)) following (comma_if last (n + 1) ++ (close ++ [])))
       ∙ ap (λ u. u ++ (comma_if last (n + 1) ++ (close ++ []))) (separated_is is_init wants_of_init (n + 1) (codes ",") first items))
       ∙ join4 open_ (separated (codes ",") (map wants_of_init (first ∷ items)) (n + 1)) (comma_if last (n + 1)) close
       ∙ sym (ap (λ f. f n) (wants_Initializer_List place (first ∷ items) last))

@@ -1,4 +1,4 @@
--- The readers of parameters: each list of them is read, and what is read is one. Parameters are a type and what stands behind it; a void
+-- The readers of parameters: each list of them is read, and what is read is one. Parameters are a type and what stands after it; a void
 -- with nothing else is the empty list where a closing bracket follows.
 use Rattle.std.proofs.Common.{◌≡◌, ℕ, ◌+◌, Bool, true, false, ◌||◌, List, [], ◌∷◌, ◌++◌, map, Option, Some, None, refl, sym, ap, ◌∙◌, subst, codes, append_assoc}
 use Rattle.std.proofs.lemmas.List.{append-nil}
@@ -19,8 +19,8 @@ use Rattle.c_tree.specs.declared.programs.Parameters.{Parameters}
 use Rattle.c_tree.specs.declared.programs.Parameters.TheVariants as parameters
 use Rattle.c_reader.specs.Reading.{◌>>=◌, give}
 use Rattle.c_reader.specs.Tokens.{is_mark, is_spelled, is_kind, spelled_by, found_by, found_in}
-use Rattle.c_expr.specs.Tokens.{type_goes_by}
-use Rattle.c_expr.specs.Levels.{readers_at}
+use Rattle.c_grammar.specs.Tokens.{type_goes_by}
+use Rattle.c_grammar.specs.Levels.{readers_at}
 use Rattle.c_reader.proofs.Reader.{Language, Of, Reads}
 use Rattle.c_reader.proofs.Binding.{Both, bind_reads}
 use Rattle.c_reader.proofs.Giving.{Given, give_reads, reads_as}
@@ -31,15 +31,15 @@ use Rattle.c_reader.proofs.Beginning.{Begins, begins_both, SomeOf, some_both, so
 use Rattle.c_reader.proofs.Joining.{in_both, in_single, in_given, onto}
 use Rattle.c_reader.proofs.Listing.{AllOf, separated_rest, separated_is}
 use Rattle.c_reader.proofs.Spelt.{named, named_reads}
-use Rattle.c_expr.proofs.Typing.{SuitsType, begins_type, word_all}
-use Rattle.c_expr.proofs.Suffixes.{SpecsAt, StopsType, Any, no_name}
-use Rattle.c_expr.proofs.Primaries.{first_from}
-use Rattle.c_expr.proofs.Members.{some_specs}
-use Rattle.c_expr.proofs.Dimensioning.{StopsDimensions, dimensions_reads}
-use Rattle.c_expr.proofs.Levels.{all_read}
+use Rattle.c_grammar.proofs.Typing.{SuitsType, begins_type, word_all}
+use Rattle.c_grammar.proofs.Suffixes.{SpecsAt, StopsType, Any, no_name}
+use Rattle.c_grammar.proofs.Primaries.{first_from}
+use Rattle.c_grammar.proofs.Members.{some_specs}
+use Rattle.c_grammar.proofs.Dimensioning.{StopsDimensions, dimensions_reads}
+use Rattle.c_grammar.proofs.Levels.{all_read}
 use Rattle.c_reader.proofs.Truths.{not_true, and_left, and_right, and_both}
 use Rattle.c_decl.specs.Bare.{void_of}
-use Rattle.c_decl.specs.Parameters.{read_parameter_of, read_parameter, read_parameters_of, read_parameters_behind, read_parameters}
+use Rattle.c_decl.specs.Parameters.{read_parameter_of, read_parameter, read_parameters_of, read_parameters_after, read_parameters}
 use Rattle.c_decl.proofs.Ending.{Ends, end_from}
 use Rattle.c_decl.proofs.Baring.{bare_void, void_wanted, void_grammar, void_found, void_is}
 use Rattle.c_decl.proofs.Following.{RestOf, some_rest, rest_stops, rest_reads}
@@ -62,11 +62,11 @@ StopsParameters = FirstIs (is_mark (codes ")")) true
 abbrev declared : Specifiers → Option Pointer → Identifier → List Dimension → Parameter
 declared specs pointer name dimensions = record { specs = specs; pointer = pointer; name = name; dimensions = dimensions }
 
--- what stands behind the type of a parameter
+-- what stands after the type of a parameter
 abbrev pub wants_untyped : Parameter → ℕ → List Piece
 wants_untyped p n = wants_of_pointer p.pointer n ++ (name p.name n ++ all_of (map wants_of_dimension p.dimensions) n)
 
--- the parameters of this type, with what stands behind it; whether the type is of the grammar isn't asked here
+-- the parameters of this type, with what stands after it; whether the type is of the grammar isn't asked here
 pub record ParameterOf (n : ℕ) (specs : Specifiers) (p : Parameter) (pieces : List Piece) : Type 0 where
   pub specs_is : p.specs ≡ specs
   pub grammar : list_all is_dimension_tree p.dimensions ≡ true
@@ -161,7 +161,7 @@ module _ (n : ℕ) where
       sym (append_assoc (wants_of_specs p.specs n) (wants_of_pointer p.pointer n) (name p.name n ++ all_of (map wants_of_dimension p.dimensions) n))
       ∙ sym (append_assoc (wants_of_specs p.specs n ++ wants_of_pointer p.pointer n) (name p.name n) (all_of (map wants_of_dimension p.dimensions) n))
 
-  -- a parameter by its type and what stands behind it
+  -- a parameter by its type and what stands after it
   whole : (specs : Specifiers) (p : Parameter) (ps : List Piece) → are_specs specs ≡ true → ParameterOf n specs p ps → ParameterAt n p (wants_of_specs specs n ++ ps)
   unfolding is_parameter
   whole specs p ps ok x =
@@ -200,13 +200,13 @@ module _ (n : ℕ) where
   abbrev ListL : Specifiers → Language Parameters
   ListL specs = Both (ParameterOf n specs) MoreL
 
-  -- behind a type, by the place of the void that it is alone, if it is one
-  abbrev BehindL : Option Place → Specifiers → Language Parameters
-  BehindL None specs = ListL specs
-  BehindL (Some place) specs = Either (Given (parameters.Void place)) (ListL specs)
+  -- after a type, by the place of the void that it is alone, if it is one
+  abbrev FollowedL : Option Place → Specifiers → Language Parameters
+  FollowedL None specs = ListL specs
+  FollowedL (Some place) specs = Either (Given (parameters.Void place)) (ListL specs)
 
   abbrev SomeL : Language Parameters
-  SomeL = Both (SpecsAt n) (λ specs. BehindL (void_of specs) specs)
+  SomeL = Both (SpecsAt n) (λ specs. FollowedL (void_of specs) specs)
 
   abbrev ParametersL : Language Parameters
   ParametersL = Either (Given parameters.Nothing) SomeL
@@ -216,12 +216,12 @@ module _ (n : ℕ) where
   list_to specs t ps ok b =
       let p = whole specs b.first b.pieces1 ok b.left in
       let rest = b.right in
-      let behind = separated_rest is_parameter wants_of_parameter n (codes ",") rest.first in
+      let following = separated_rest is_parameter wants_of_parameter n (codes ",") rest.first in
       let is : t ≡ parameters.List (b.first ∷ rest.first) = rest.right.tree_is in
       record {
         grammar = ap are_parameters is ∙ and_both (is_parameter b.first) (list_all is_parameter rest.first) p.grammar rest.left.grammar;
         wants = ap (λ u. wants_of_specs specs n ++ u) b.whole ∙ sym (append_assoc (wants_of_specs specs n) b.pieces1 b.pieces2) ∙ ap (λ u. u ++ b.pieces2) p.wants
-            ∙ ap (λ u. wants_of_parameter b.first n ++ u) (onto rest.whole rest.left.wants rest.right.none ∙ append-nil behind)
+            ∙ ap (λ u. wants_of_parameter b.first n ++ u) (onto rest.whole rest.left.wants rest.right.none ∙ append-nil following)
             ∙ separated_is is_parameter wants_of_parameter n (codes ",") b.first rest.first ∙ ap (λ u. wants_of_parameters u n) (sym is);
       }
 
@@ -233,20 +233,20 @@ module _ (n : ℕ) where
         wants = ap (λ u. wants_of_specs specs n ++ u) is.none ∙ append-nil (wants_of_specs specs n) ∙ ap (λ u. wants_of_specs u n) (void_is specs place void) ∙ void_wanted place n ∙ ap (λ u. wants_of_parameters u n) (sym is.tree_is);
       }
 
-  behind_to : (found : Option Place) (specs : Specifiers) → void_of specs ≡ found → are_specs specs ≡ true → (t : Parameters) (ps : List Piece) → BehindL found specs t ps → ParametersAt n t (wants_of_specs specs n ++ ps)
-  behind_to None specs void ok t ps b = list_to specs t ps ok b
-  behind_to (Some place) specs void ok t ps (this is) = void_to specs place void t ps is
-  behind_to (Some place) specs void ok t ps (that b) = list_to specs t ps ok b
+  following_to : (found : Option Place) (specs : Specifiers) → void_of specs ≡ found → are_specs specs ≡ true → (t : Parameters) (ps : List Piece) → FollowedL found specs t ps → ParametersAt n t (wants_of_specs specs n ++ ps)
+  following_to None specs void ok t ps b = list_to specs t ps ok b
+  following_to (Some place) specs void ok t ps (this is) = void_to specs place void t ps is
+  following_to (Some place) specs void ok t ps (that b) = list_to specs t ps ok b
 
   parameters_to : (t : Parameters) (ps : List Piece) → ParametersL t ps → ParametersAt n t ps
   unfolding are_parameters wants_of_parameters
   parameters_to t ps (this is) = record { grammar = ap are_parameters is.tree_is; wants = is.none ∙ ap (λ u. wants_of_parameters u n) (sym is.tree_is) }
   parameters_to t ps (that b) =
-      subst (λ u. ParametersAt n t u) (sym (b.whole ∙ ap (λ u. u ++ b.pieces2) b.left.wants)) (behind_to (void_of b.first) b.first refl b.left.grammar t b.pieces2 b.right)
+      subst (λ u. ParametersAt n t u) (sym (b.whole ∙ ap (λ u. u ++ b.pieces2) b.left.wants)) (following_to (void_of b.first) b.first refl b.left.grammar t b.pieces2 b.right)
 
-  list_behind : (found : Option Place) (specs : Specifiers) (t : Parameters) (ps : List Piece) → ListL specs t ps → BehindL found specs t ps
-  list_behind None specs t ps b = b
-  list_behind (Some place) specs t ps b = that b
+  list_following : (found : Option Place) (specs : Specifiers) (t : Parameters) (ps : List Piece) → ListL specs t ps → FollowedL found specs t ps
+  list_following None specs t ps b = b
+  list_following (Some place) specs t ps b = that b
 
   parameters_from : (t : Parameters) (ps : List Piece) → ParametersAt n t ps → ParametersL t ps
   unfolding are_parameters wants_of_parameters
@@ -254,16 +254,16 @@ module _ (n : ℕ) where
   parameters_from (parameters.Void place) ps is =
       that (subst (λ u. SomeL (parameters.Void place) u) (append-nil (wants_of_specs (bare_void place) n) ∙ void_wanted place n ∙ sym is.wants)
       (in_both _ _ _ _ _ (bare_void place) (record { grammar = void_grammar place; wants = refl })
-      (subst (λ u. BehindL u (bare_void place) (parameters.Void place) []) (sym (void_found place)) (this (in_given (parameters.Void place))))))
+      (subst (λ u. FollowedL u (bare_void place) (parameters.Void place) []) (sym (void_found place)) (this (in_given (parameters.Void place))))))
   parameters_from (parameters.List []) ps is = absurd (not_true is.grammar)
   parameters_from (parameters.List (first ∷ rest)) ps is =
       let ok = and_left (is_parameter first) (list_all is_parameter rest) is.grammar in
-      let behind = separated_rest is_parameter wants_of_parameter n (codes ",") rest in
+      let following = separated_rest is_parameter wants_of_parameter n (codes ",") rest in
       that (subst (λ u. SomeL (parameters.List (first ∷ rest)) u)
-      (ap (λ u. wants_of_specs first.specs n ++ (wants_untyped first n ++ u)) (append-nil behind) ∙ sym (append_assoc (wants_of_specs first.specs n) (wants_untyped first n) behind)
-      ∙ ap (λ u. u ++ behind) (parameter_flat first) ∙ separated_is is_parameter wants_of_parameter n (codes ",") first rest ∙ sym is.wants)
+      (ap (λ u. wants_of_specs first.specs n ++ (wants_untyped first n ++ u)) (append-nil following) ∙ sym (append_assoc (wants_of_specs first.specs n) (wants_untyped first n) following)
+      ∙ ap (λ u. u ++ following) (parameter_flat first) ∙ separated_is is_parameter wants_of_parameter n (codes ",") first rest ∙ sym is.wants)
       (in_both _ _ _ _ _ first.specs (specs_ok first ok)
-      (list_behind (void_of first.specs) first.specs _ _
+      (list_following (void_of first.specs) first.specs _ _
       (in_both _ _ _ _ _ first (untyped first ok)
       (in_both _ _ _ _ _ rest (record { grammar = and_right (is_parameter first) (list_all is_parameter rest) is.grammar; wants = refl }) (in_given (parameters.List (first ∷ rest))))))))
 
@@ -274,18 +274,18 @@ module _ (n : ℕ) where
   some_more : (first : Parameter) → SomeOf (MoreL first)
   some_more first = some_both _ _ (some_rest is_parameter wants_of_parameter n (codes ",")) (λ rest. some_given (parameters.List (first ∷ rest)))
 
-  some_behind : (found : Option Place) (specs : Specifiers) → SomeOf (BehindL found specs)
-  some_behind None specs = some_both _ _ (some_parameter_of specs) some_more
-  some_behind (Some place) specs = (parameters.Void place, ([], this (in_given (parameters.Void place))))
+  some_following : (found : Option Place) (specs : Specifiers) → SomeOf (FollowedL found specs)
+  some_following None specs = some_both _ _ (some_parameter_of specs) some_more
+  some_following (Some place) specs = (parameters.Void place, ([], this (in_given (parameters.Void place))))
 
   list_begins : (specs : Specifiers) (by : TokenKind → List ℕ → Bool) (b : Bool) → by Mark (codes "*") ≡ b → ((text : List ℕ) → by Name text ≡ b) → Begins (ListL specs) (λ w. by w.kind w.text) b
   list_begins specs by b star is_name_ = begins_both _ _ (λ w. by w.kind w.text) b (parameter_of_begins specs by b star is_name_)
 
-  behind_stops : (found : Option Place) (specs : Specifiers) (t : Parameters) (qs : List Piece) (ys rest : List Token) → BehindL found specs t qs → Fits qs ys → StopsParameters rest → StopsType (ys ++ rest)
+  following_stops : (found : Option Place) (specs : Specifiers) (t : Parameters) (qs : List Piece) (ys rest : List Token) → FollowedL found specs t qs → Fits qs ys → StopsParameters rest → StopsType (ys ++ rest)
   unfolding type_goes_by spelled_by found_by found_in
-  behind_stops None specs t qs ys rest b fits stop = list_begins specs type_goes_by false refl (λ x. refl) t qs ys rest b fits
-  behind_stops (Some place) specs t qs ys rest (this is) fits stop = given_stops (parameters.Void place) t qs ys rest StopsType is fits (bracket_stops_type rest stop)
-  behind_stops (Some place) specs t qs ys rest (that b) fits stop = list_begins specs type_goes_by false refl (λ x. refl) t qs ys rest b fits
+  following_stops None specs t qs ys rest b fits stop = list_begins specs type_goes_by false refl (λ x. refl) t qs ys rest b fits
+  following_stops (Some place) specs t qs ys rest (this is) fits stop = given_stops (parameters.Void place) t qs ys rest StopsType is fits (bracket_stops_type rest stop)
+  following_stops (Some place) specs t qs ys rest (that b) fits stop = list_begins specs type_goes_by false refl (λ x. refl) t qs ys rest b fits
 
 -- ---- the readers
 
@@ -324,10 +324,10 @@ module _ (most size n left : ℕ) (level : n + left ≡ most + 1) where
       (λ first ps is. some_more n first)
       (λ first c qs ys more is fits stop. rest_stops is_parameter wants_of_parameter n (codes ",") (λ rest. parameters.List (first ∷ rest)) StopsParameter StopsParameters comma_ends bracket_ends c qs ys more is fits stop)
 
-  behind_read : (found : Option Place) (specs : Specifiers) → Reads (BehindL n found specs) most size StopsParameters (read_parameters_behind size left specs found)
+  following_read : (found : Option Place) (specs : Specifiers) → Reads (FollowedL n found specs) most size StopsParameters (read_parameters_after size left specs found)
   unfolding spelled_by is_spelled is_kind
-  behind_read None specs = list_read specs
-  behind_read (Some place) specs =
+  following_read None specs = list_read specs
+  following_read (Some place) specs =
       choose_reads (Given (parameters.Void place)) (ListL n specs) most size StopsParameters (is_mark (codes ")")) (give (parameters.Void place)) (read_parameters_of size left specs) (give_reads (parameters.Void place) most size StopsParameters) (list_read specs)
       (λ t ps front rest is fits stop. given_stops (parameters.Void place) t ps front rest StopsParameters is fits stop)
       (λ t ps front rest is fits stop. list_begins n specs (spelled_by Mark (codes ")")) false refl (λ x. refl) t ps front rest is fits)
@@ -336,10 +336,10 @@ module _ (most size n left : ℕ) (level : n + left ≡ most + 1) where
   unfolding read_parameters spelled_by is_spelled is_kind
   parameters_reads =
       reads_as (parameters_to n) (parameters_from n)
-      (choose_reads (Given parameters.Nothing) (SomeL n) most size StopsParameters (is_mark (codes ")")) (give parameters.Nothing) ((readers_at size left).specs >>= λ specs. read_parameters_behind size left specs (void_of specs)) (give_reads parameters.Nothing most size StopsParameters)
+      (choose_reads (Given parameters.Nothing) (SomeL n) most size StopsParameters (is_mark (codes ")")) (give parameters.Nothing) ((readers_at size left).specs >>= λ specs. read_parameters_after size left specs (void_of specs)) (give_reads parameters.Nothing most size StopsParameters)
       (bind_reads _ _ most size StopsType StopsParameters _ _ (all_read most size left n level).specs
-      (λ specs. behind_read (void_of specs) specs)
-      (λ specs ps is. some_behind n (void_of specs) specs)
-      (λ specs c qs ys rest is fits stop. behind_stops n (void_of specs) specs c qs ys rest is fits stop))
+      (λ specs. following_read (void_of specs) specs)
+      (λ specs ps is. some_following n (void_of specs) specs)
+      (λ specs c qs ys rest is fits stop. following_stops n (void_of specs) specs c qs ys rest is fits stop))
       (λ t ps front rest is fits stop. given_stops parameters.Nothing t ps front rest StopsParameters is fits stop)
       (λ t ps front rest is fits stop. begins_both _ _ (is_mark (codes ")")) false (begins_type (spelled_by Mark (codes ")")) false no_bracket n) t ps front rest is fits))

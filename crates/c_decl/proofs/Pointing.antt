@@ -18,7 +18,7 @@ use Rattle.c_reader.proofs.Repeating.{given_stops}
 use Rattle.c_reader.proofs.Beginning.{Begins, begins_both, begins_single, SomeOf}
 use Rattle.c_reader.proofs.Joining.{in_both, in_single, in_given, onto, join2}
 use Rattle.c_reader.proofs.Spelt.{by_text, spelt_at, spelt_at_reads}
-use Rattle.c_expr.proofs.Suffixes.{Any}
+use Rattle.c_grammar.proofs.Suffixes.{Any}
 use Rattle.c_reader.proofs.Truths.{or_left, or_right}
 use Rattle.c_decl.specs.Declarations.{read_constant, read_star, read_pointer}
 
@@ -105,15 +105,15 @@ module _ (n : ℕ) where
   star_begins by b is = begins_both _ _ (λ w. by w.kind w.text) b (begins_single (spelt_at Mark (codes "*") n) (λ w. by w.kind w.text) b (λ place w takes. by_text by Mark (codes "*") b w takes.0.0 takes.0.1 is))
 
   pointer_first : (by : TokenKind → List ℕ → Bool) (b : Bool) → by Mark (codes "*") ≡ b → (p : Option Pointer) (ps : List Piece) (ys rest : List Token) → PointerL p ps → Fits ps ys → FirstIs (λ w. by w.kind w.text) b rest → FirstIs (λ w. by w.kind w.text) b (ys ++ rest)
-  pointer_first by b star p ps ys rest (this is) fits behind = star_begins by b star p ps ys rest is fits
-  pointer_first by b star p ps ys rest (that is) fits behind = given_stops None p ps ys rest (FirstIs (λ w. by w.kind w.text) b) is fits behind
+  pointer_first by b star p ps ys rest (this is) fits following = star_begins by b star p ps ys rest is fits
+  pointer_first by b star p ps ys rest (that is) fits following = given_stops None p ps ys rest (FirstIs (λ w. by w.kind w.text) b) is fits following
 
   -- what a test says of the first token of a pointer and of what follows it, where there may be none
   pub pointed_begins : {C : Type 0} (K : Option Pointer → Language C) (by : TokenKind → List ℕ → Bool) (b : Bool) → by Mark (codes "*") ≡ b → ((p : Option Pointer) → Begins (K p) (λ w. by w.kind w.text) b) → Begins (Both (PointerAt n) K) (λ w. by w.kind w.text) b
-  pointed_begins K by b star behind c ps front rest both fits =
+  pointed_begins K by b star following c ps front rest both fits =
       let parted = fits_part both.pieces1 both.pieces2 front (subst (λ u. Fits u front) both.whole fits) in
-      subst (λ u. FirstIs (λ w. by w.kind w.text) b u) (sym (ap (λ u. u ++ rest) parted.whole ∙ append_assoc parted.front parted.behind rest))
-      (pointer_first by b star both.first both.pieces1 parted.front (parted.behind ++ rest) (pointer_from both.first both.pieces1 both.left) parted.left (behind both.first c both.pieces2 parted.behind rest both.right parted.right))
+      subst (λ u. FirstIs (λ w. by w.kind w.text) b u) (sym (ap (λ u. u ++ rest) parted.whole ∙ append_assoc parted.front parted.following rest))
+      (pointer_first by b star both.first both.pieces1 parted.front (parted.following ++ rest) (pointer_from both.first both.pieces1 both.left) parted.left (following both.first c both.pieces2 parted.following rest both.right parted.right))
 
 -- ---- the readers
 
@@ -129,15 +129,15 @@ module _ (most size n left : ℕ) (level : n + left ≡ most + 1) where
       (λ c ps front rest is fits stop. here_begins n (spelled_by Word (codes "const")) true refl c ps front rest is fits)
       (λ c ps front rest is fits stop. given_stops None c ps front rest (FirstIs (is_word (codes "const")) false) is fits (no_const rest stop))
 
-  given_behind : (place : Place) (constant : Option Place) → SomeOf {A = Option Pointer} (Given (Some (record { place = place; constant = constant })))
-  given_behind place constant = (Some (record { place = place; constant = constant }), ([], in_given (Some (record { place = place; constant = constant }))))
+  given_following : (place : Place) (constant : Option Place) → SomeOf {A = Option Pointer} (Given (Some (record { place = place; constant = constant })))
+  given_following place constant = (Some (record { place = place; constant = constant }), ([], in_given (Some (record { place = place; constant = constant }))))
 
   star_read : Reads (StarL n) most size StopsPointer (read_star left)
   unfolding read_star
   star_read =
       bind_reads _ _ most size Any StopsPointer _ _ (spelt_at_reads most size Any Mark (codes "*") n left level)
       (λ place. bind_reads _ _ most size StopsPointer StopsPointer _ _ constant_read (λ constant. give_reads (Some (record { place = place; constant = constant })) most size StopsPointer)
-      (λ constant ps is. given_behind place constant)
+      (λ constant ps is. given_following place constant)
       (λ constant c qs ys rest is fits stop. given_stops (Some (record { place = place; constant = constant })) c qs ys rest StopsPointer is fits stop))
       (λ place ps is. (Some (record { place = place; constant = None }), ([] ++ [], in_both _ _ _ _ _ None (that (in_given None)) (in_given (Some (record { place = place; constant = None }))))))
       (λ place c qs ys rest is fits stop. tt)

@@ -15,10 +15,10 @@ use Rattle.c_tree.specs.declared.statements.InitDeclarator.{InitDeclarator}
 use Rattle.c_tree.specs.declared.statements.Declaration.{Declaration}
 use Rattle.c_reader.specs.Reading.{Reader, ◌>>=◌, give, deep, choose, many}
 use Rattle.c_reader.specs.Tokens.{is_mark, is_word, spelled_by, read_mark, read_mark_at, read_word_at, read_name}
-use Rattle.c_expr.specs.Tokens.{expr_by}
-use Rattle.c_expr.specs.Types.{read_dimensions}
+use Rattle.c_grammar.specs.Tokens.{expr_by}
+use Rattle.c_grammar.specs.Types.{read_dimensions}
 use Rattle.c_reader.specs.Lists.{read_more}
-use Rattle.c_expr.specs.Levels.{readers_at}
+use Rattle.c_grammar.specs.Levels.{readers_at}
 
 -- ---- pointers
 
@@ -72,9 +72,9 @@ read_start size left = choose (is_mark (codes "=")) (read_started size left) (gi
 abbrev pub read_bounds : ℕ → ℕ → Reader (List Dimension)
 read_bounds size left = read_dimensions size left (readers_at size left).expr
 
--- what stands behind a declared name
-unfoldable pub read_declarator_behind : ℕ → ℕ → Option Pointer → Identifier → Reader InitDeclarator
-read_declarator_behind size left pointer name = do
+-- what stands after a declared name
+unfoldable pub read_declarator_after : ℕ → ℕ → Option Pointer → Identifier → Reader InitDeclarator
+read_declarator_after size left pointer name = do
   dimensions ← read_bounds size left
   start ← read_start size left
   give (record { pointer = pointer; name = name; dimensions = dimensions; start = start })
@@ -83,12 +83,12 @@ unfoldable pub read_declarator : ℕ → ℕ → Reader InitDeclarator
 read_declarator size left = do
   pointer ← read_pointer left
   name ← read_name left
-  read_declarator_behind size left pointer name
+  read_declarator_after size left pointer name
 
--- what stands behind the first declared name
-unfoldable pub read_objects_behind : ℕ → ℕ → Specifiers → Option Pointer → Identifier → Reader Declaration
-read_objects_behind size left specs pointer name = do
-  first ← read_declarator_behind size left pointer name
+-- what stands after the first declared name
+unfoldable pub read_objects_after : ℕ → ℕ → Specifiers → Option Pointer → Identifier → Reader Declaration
+read_objects_after size left specs pointer name = do
+  first ← read_declarator_after size left pointer name
   rest ← many size (is_mark (codes ",")) (read_mark (codes ",") left >>= λ comma. read_declarator size left)
   give (record { specs = specs; declarators = first ∷ rest })
 
@@ -97,7 +97,7 @@ unfoldable pub read_objects_of : ℕ → ℕ → Specifiers → Reader Declarati
 read_objects_of size left specs = do
   pointer ← read_pointer left
   name ← read_name left
-  read_objects_behind size left specs pointer name
+  read_objects_after size left specs pointer name
 
 unfoldable pub read_objects : ℕ → ℕ → Reader Declaration
 read_objects size left = (readers_at size left).specs >>= read_objects_of size left

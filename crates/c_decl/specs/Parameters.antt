@@ -7,7 +7,7 @@ use Rattle.c_tree.specs.declared.programs.Parameters.{Parameters}
 use Rattle.c_tree.specs.declared.programs.Parameters.TheVariants as parameters
 use Rattle.c_reader.specs.Reading.{Reader, ◌>>=◌, give, choose, many}
 use Rattle.c_reader.specs.Tokens.{is_mark, read_mark, read_name}
-use Rattle.c_expr.specs.Levels.{readers_at}
+use Rattle.c_grammar.specs.Levels.{readers_at}
 use Rattle.c_decl.specs.Bare.{void_of}
 use Rattle.c_decl.specs.Declarations.{read_pointer, read_bounds}
 
@@ -29,12 +29,12 @@ read_parameters_of size left specs = do
   rest ← many size (is_mark (codes ",")) (read_mark (codes ",") left >>= λ comma. read_parameter size left)
   give (parameters.List (first ∷ rest))
 
--- behind a void with nothing else only a closing bracket makes it the empty list
-abbrev pub read_parameters_behind : ℕ → ℕ → Specifiers → Option Place → Reader Parameters
-read_parameters_behind size left specs None = read_parameters_of size left specs
-read_parameters_behind size left specs (Some place) = choose (is_mark (codes ")")) (give (parameters.Void place)) (read_parameters_of size left specs)
+-- after a void with nothing else only a closing bracket makes it the empty list
+abbrev pub read_parameters_after : ℕ → ℕ → Specifiers → Option Place → Reader Parameters
+read_parameters_after size left specs None = read_parameters_of size left specs
+read_parameters_after size left specs (Some place) = choose (is_mark (codes ")")) (give (parameters.Void place)) (read_parameters_of size left specs)
 
 -- what stands between the brackets of a head
 unfoldable pub read_parameters : ℕ → ℕ → Reader Parameters
 read_parameters size left =
-    choose (is_mark (codes ")")) (give parameters.Nothing) ((readers_at size left).specs >>= λ specs. read_parameters_behind size left specs (void_of specs))
+    choose (is_mark (codes ")")) (give parameters.Nothing) ((readers_at size left).specs >>= λ specs. read_parameters_after size left specs (void_of specs))

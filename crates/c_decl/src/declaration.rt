@@ -10,8 +10,9 @@ ghost use Rattle.c_reader.specs.Tokens.{read_mark};
 ghost use Rattle.c_decl.specs.Declarations as spec;
 
 use crate::rules::Rules;
-use c_expr::{dimensions, expr, specs, starts_expr};
-use c_reader::{Cursor, Unread, is_mark, many_behind, more_behind, only};
+use c_expr::{dimensions, expr, specs};
+use c_grammar::starts_expr;
+use c_reader::{Cursor, Unread, is_mark, many_after, more_after, only};
 use c_tree::{
     Declaration, Dimension, Identifier, InitDeclarator, Initialization, Initializer, Place,
     Pointer, Specifiers, Token,
@@ -73,7 +74,7 @@ impl Rules {
     {
         let place = cursor.mark_at("{", self.left)?;
         let first = only(self.alloc, init(cursor)?)?;
-        let (parts, comma) = more_behind(
+        let (parts, comma) = more_after(
             cursor,
             self.size,
             self.left,
@@ -139,15 +140,15 @@ impl Rules {
         dimensions(self.alloc, cursor, self.size, self.left)
     }
 
-    /// `bounds ["=" init]`, behind a declared name.
-    #[tactic(auto, unfolding(crate::specs::Declarations::read_declarator_behind))]
-    fn declarator_behind(
+    /// `bounds ["=" init]`, after a declared name.
+    #[tactic(auto, unfolding(crate::specs::Declarations::read_declarator_after))]
+    fn declarator_after(
         self,
         cursor: &mut Cursor<'_>,
         pointer: Option<Pointer>,
         name: Identifier,
     ) -> Result<InitDeclarator, Unread>
-        ensures { Gives (spec.read_declarator_behind self.size self.left pointer name cursor.old) result cursor.new }
+        ensures { Gives (spec.read_declarator_after self.size self.left pointer name cursor.old) result cursor.new }
     {
         let dimensions = self.bounds(cursor)?;
         let start = self.start(cursor)?;
@@ -166,7 +167,7 @@ impl Rules {
     {
         let pointer = self.pointer(cursor)?;
         let name = cursor.name(self.alloc, self.left)?;
-        self.declarator_behind(cursor, pointer, name)
+        self.declarator_after(cursor, pointer, name)
     }
 
     /// `"," declarator`
@@ -177,19 +178,19 @@ impl Rules {
         self.declarator(cursor)
     }
 
-    /// What stands behind the first declared name: `bounds ["=" init] ("," declarator)*`
-    #[tactic(auto, unfolding(crate::specs::Declarations::read_objects_behind))]
-    pub fn objects_behind(
+    /// What stands after the first declared name: `bounds ["=" init] ("," declarator)*`
+    #[tactic(auto, unfolding(crate::specs::Declarations::read_objects_after))]
+    pub fn objects_after(
         self,
         cursor: &mut Cursor<'_>,
         specs: Specifiers,
         pointer: Option<Pointer>,
         name: Identifier,
     ) -> Result<Declaration, Unread>
-        ensures { Gives (spec.read_objects_behind self.size self.left specs pointer name cursor.old) result cursor.new }
+        ensures { Gives (spec.read_objects_after self.size self.left specs pointer name cursor.old) result cursor.new }
     {
-        let first = only(self.alloc, self.declarator_behind(cursor, pointer, name)?)?;
-        let declarators = many_behind(
+        let first = only(self.alloc, self.declarator_after(cursor, pointer, name)?)?;
+        let declarators = many_after(
             cursor,
             self.size,
             |token| is_mark(",", token),
@@ -210,7 +211,7 @@ impl Rules {
     {
         let pointer = self.pointer(cursor)?;
         let name = cursor.name(self.alloc, self.left)?;
-        self.objects_behind(cursor, specs, pointer, name)
+        self.objects_after(cursor, specs, pointer, name)
     }
 
     /// `specs declarator ("," declarator)*`

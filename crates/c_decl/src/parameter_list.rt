@@ -9,7 +9,7 @@ ghost use Rattle.c_decl.specs.Parameters as spec;
 use crate::bare::void_of;
 use crate::rules::Rules;
 use c_expr::specs;
-use c_reader::{Cursor, Unread, is_mark, many_behind, only};
+use c_reader::{Cursor, Unread, is_mark, many_after, only};
 use c_tree::{Parameter, Parameters, Specifiers};
 
 impl Rules {
@@ -52,7 +52,7 @@ impl Rules {
         ensures { Gives (spec.read_parameters_of self.size self.left specs cursor.old) result cursor.new }
     {
         let first = only(self.alloc, self.parameter_of(cursor, specs)?)?;
-        let parameters = many_behind(
+        let parameters = many_after(
             cursor,
             self.size,
             |token| is_mark(",", token),

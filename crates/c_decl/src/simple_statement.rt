@@ -29,7 +29,7 @@ fn is_postfix(expr: &Expr) -> bool
 }
 
 impl Rules {
-    /// `assign expr`, behind what is assigned to.
+    /// `assign expr`, after what is assigned to.
     #[tactic(auto, unfolding(crate::specs::ExpressionStatements::read_assigned))]
     fn assigned(self, cursor: &mut Cursor<'_>, target: Expr) -> Result<ExpressionStatement, Unread>
         ensures { Gives (spec.read_assigned self.size self.left target cursor.old) result cursor.new }
@@ -44,7 +44,7 @@ impl Rules {
         })
     }
 
-    /// `step`, behind its operand.
+    /// `step`, after its operand.
     #[tactic(auto, unfolding(crate::specs::ExpressionStatements::read_stepped))]
     fn stepped(self, cursor: &mut Cursor<'_>, target: Expr) -> Result<ExpressionStatement, Unread>
         ensures { Gives (spec.read_stepped self.left target cursor.old) result cursor.new }
@@ -57,11 +57,11 @@ impl Rules {
         })
     }
 
-    /// `[assign expr | step]`, behind a call.
-    #[tactic(auto, using(c_reader::proofs::Gathering::choose_sees), unfolding(crate::specs::ExpressionStatements::read_simple_behind))]
-    fn behind_call(self, cursor: &mut Cursor<'_>, call: Expr) -> Result<ExpressionStatement, Unread>
+    /// `[assign expr | step]`, after a call.
+    #[tactic(auto, using(c_reader::proofs::Gathering::choose_sees), unfolding(crate::specs::ExpressionStatements::read_simple_after))]
+    fn after_call(self, cursor: &mut Cursor<'_>, call: Expr) -> Result<ExpressionStatement, Unread>
         requires { grammar.is_call call ≡ true }
-        ensures { Gives (spec.read_simple_behind self.size self.left call cursor.old) result cursor.new }
+        ensures { Gives (spec.read_simple_after self.size self.left call cursor.old) result cursor.new }
     {
         if sees_assign(cursor) {
             self.assigned(cursor, call)
@@ -72,18 +72,18 @@ impl Rules {
         }
     }
 
-    /// What can stand behind a unary expression: an assignment; a step, unless a prefix operator or a cast leads the
+    /// What can stand after a unary expression: an assignment; a step, unless a prefix operator or a cast leads the
     /// expression; nothing, where it is a call.
-    #[tactic(auto, using(c_reader::proofs::Gathering::choose_sees), unfolding(crate::specs::ExpressionStatements::read_simple_behind))]
-    fn simple_behind(
+    #[tactic(auto, using(c_reader::proofs::Gathering::choose_sees), unfolding(crate::specs::ExpressionStatements::read_simple_after))]
+    fn simple_after(
         self,
         cursor: &mut Cursor<'_>,
         target: Expr,
     ) -> Result<ExpressionStatement, Unread>
-        ensures { Gives (spec.read_simple_behind self.size self.left target cursor.old) result cursor.new }
+        ensures { Gives (spec.read_simple_after self.size self.left target cursor.old) result cursor.new }
     {
         if is_call(&target) {
-            self.behind_call(cursor, target)
+            self.after_call(cursor, target)
         } else if is_postfix(&target) && sees_step(cursor) {
             self.stepped(cursor, target)
         } else {
@@ -105,7 +105,7 @@ impl Rules {
         })
     }
 
-    /// `step unary`, or a unary expression and what stands behind it.
+    /// `step unary`, or a unary expression and what stands after it.
     #[tactic(auto, using(c_reader::proofs::Gathering::choose_sees), unfolding(crate::specs::ExpressionStatements::read_simple))]
     pub fn simple(self, cursor: &mut Cursor<'_>) -> Result<ExpressionStatement, Unread>
         ensures { Gives (spec.read_simple self.size self.left cursor.old) result cursor.new }
@@ -114,6 +114,6 @@ impl Rules {
             return self.before(cursor);
         }
         let target = unary(self.alloc, cursor, self.size, self.left)?;
-        self.simple_behind(cursor, target)
+        self.simple_after(cursor, target)
     }
 }

@@ -9,38 +9,30 @@ use Rattle.c_tree.specs.declared.expressions.Expr.{Expr}
 use Rattle.c_reader.specs.Faults.{Tells, names_construct, named_word}
 use Rattle.c_reader.specs.Reading.{Answer, Reader}
 use Rattle.c_reader.specs.Reading as reading
-use Rattle.c_expr.specs.Levels.{readers_at}
+use Rattle.c_grammar.specs.Levels.{readers_at}
 use Rattle.c_reader.specs.Alone.{all_but_one, alone, fault_of}
-use Rattle.c_reader.specs.Depths.{most_nesting, AreShallow}
+use Rattle.c_reader.specs.Depths.{AreShallow, AreWithin}
 use Rattle.c_reader.specs.Firsts.{BeginsOf, IsFirstDeep}
-use Rattle.c_expr.specs.Runs.{SpellsExpr, ExprAt, IsRun, IsTaken, IsUnreadRun, IsFaultOf}
+use Rattle.c_grammar.specs.Spelled.{SpellsExpr, ExprAt}
+use Rattle.c_expr.specs.Runs.{IsRun, IsTaken, IsUnreadRun, IsFaultOf}
 use Rattle.c_reader.specs.Samples.{sample_of, end_token, is_taken, can_stand}
-use Rattle.c_expr.specs.Tokens.{goes_by, suffix_by}
+use Rattle.c_grammar.specs.Tokens.{goes_by, suffix_by}
 use Rattle.c_reader.specs.Tokens.{spelled_by, found_by}
 use Rattle.c_reader.specs.declared.faults.SyntaxFault.TheVariants as fault
 use Rattle.c_reader.specs.declared.samples.Sample.{Sample}
-use Rattle.c_reader.proofs.Reader.{Shallow, Bad, Deep, Found, Reads}
-use Rattle.c_reader.proofs.Binding.{fits_append}
+use Rattle.c_reader.proofs.Reader.{Bad, Deep, Found, Reads}
+use Rattle.c_reader.proofs.Binding.{fits_append, not_within}
 use Rattle.c_reader.proofs.Choosing.{FirstIs}
 use Rattle.c_reader.proofs.Ending.{Parting, earlier, same, later, parting}
-use Rattle.c_expr.proofs.Levels.{all_read}
-use Rattle.c_expr.proofs.Oneness.{deepest, shallow_more, all_shallow, one_expr}
+use Rattle.c_grammar.proofs.Levels.{all_read}
+use Rattle.c_reader.proofs.Nesting.{limit_of, within_more, within_limit}
+use Rattle.c_grammar.proofs.Oneness.{one_expr}
 use Rattle.c_reader.proofs.Probing.{begins_less, none_begins, none_longer}
 use Rattle.c_reader.proofs.Probing as probing
 use Rattle.c_reader.proofs.Shrinking.{Like, like_any}
-use Rattle.c_expr.proofs.Sizing.{all_like}
-use Rattle.c_expr.proofs.Suffixes.{At, Stops}
+use Rattle.c_grammar.proofs.Sizing.{all_like}
+use Rattle.c_grammar.proofs.Suffixes.{At, Stops}
 use Rattle.c_reader.proofs.Truths.{not_true}
-
-to_shallow : (ps : List Piece) → Shallow most_nesting ps → AreShallow ps
-unfolding Shallow AreShallow
-to_shallow [] s = tt
-to_shallow (p ∷ ps) s = (s.0, to_shallow ps s.1)
-
-from_shallow : (ps : List Piece) → AreShallow ps → Shallow most_nesting ps
-unfolding Shallow AreShallow
-from_shallow [] s = tt
-from_shallow (p ∷ ps) s = (s.0, from_shallow ps s.1)
 
 -- ---- two answers at once
 
@@ -78,9 +70,9 @@ double : (b : Bool) → not b ≡ false → b ≡ true
 double true h = refl
 double false h = absurd (not_true (sym h))
 
-nothing_behind : (between : List Token) (w : Token) (rest : List Token) → [] ≡ between ++ w ∷ rest → ⊥
-nothing_behind [] w rest h = cc
-nothing_behind (x ∷ between) w rest h = cc
+nothing_following : (between : List Token) (w : Token) (rest : List Token) → [] ≡ between ++ w ∷ rest → ⊥
+nothing_following [] w rest h = cc
+nothing_following (x ∷ between) w rest h = cc
 
 -- ---- expressions that begin with some tokens
 
@@ -102,14 +94,14 @@ module _ (nesting : ℕ) where
 
   -- ---- the longest run
 
-  same_run : (run other : List Token) (w v : Token) (rest behind : List Token) → Parting run other w v rest behind
+  same_run : (run other : List Token) (w v : Token) (rest following : List Token) → Parting run other w v rest following
       → BeginsOf (ExprAt nesting) run → (BeginsOf (ExprAt nesting) (run ++ w ∷ []) → ⊥) → BeginsOf (ExprAt nesting) other → (BeginsOf (ExprAt nesting) (other ++ v ∷ []) → ⊥) → run ≡ other
-  same_run run other w v rest behind (earlier between is tail) one none two also = absurd (none (first_begins other run w between is two))
-  same_run run other w v rest behind (same is first tail) one none two also = is
-  same_run run other w v rest behind (later between is tail) one none two also = absurd (also (first_begins run other v between is one))
+  same_run run other w v rest following (earlier between is tail) one none two also = absurd (none (first_begins other run w between is two))
+  same_run run other w v rest following (same is first tail) one none two also = is
+  same_run run other w v rest following (later between is tail) one none two also = absurd (also (first_begins run other v between is one))
 
   one_run : (ts run other : List Token) (w v : Token) → IsRun nesting ts run w → IsRun nesting ts other v → BeginsOf (ExprAt nesting) run → BeginsOf (ExprAt nesting) other → run ≡ other
-  one_run ts run other w v r s one two = same_run run other w v r.behind s.behind (parting run other w v r.behind s.behind (sym r.whole ∙ s.whole)) one r.none two s.none
+  one_run ts run other w v r s one two = same_run run other w v r.following s.following (parting run other w v r.following s.following (sym r.whole ∙ s.whole)) one r.none two s.none
 
   -- an expression that is the longest run is the one that is taken
   pub taken_one : (ts : List Token) (e : Expr) (count : ℕ) → IsTaken nesting ts e count → (run : List Token) (w : Token) (expr : Expr) → IsRun nesting ts run w → SpellsExpr nesting run expr → (e ≡ expr) × (count ≡ length run)
@@ -120,14 +112,14 @@ module _ (nesting : ℕ) where
 
   pub unread_none : (ts other : List Token) (v : Token) (construct : Bool) → IsUnreadRun nesting ts other v construct → (run : List Token) (w : Token) (expr : Expr) → IsRun nesting ts run w → SpellsExpr nesting run expr → ⊥
   unread_none ts other v construct u run w expr r s =
-      let is : run ≡ other = one_run ts run other w v r (record { behind = u.unread.first.behind; whole = u.unread.first.whole; none = u.unread.first.none }) (spelled_begins run expr s) u.unread.first.begins in
+      let is : run ≡ other = one_run ts run other w v r (record { following = u.unread.first.following; whole = u.unread.first.whole; none = u.unread.first.none }) (spelled_begins run expr s) u.unread.first.begins in
       u.broken expr (subst (λ x. SpellsExpr nesting x expr) is s)
 
   -- ---- no expression goes on with the end
 
-  deep_enough : (most : ℕ) (e : Expr) (ps : List Piece) (ts rest : List Token) (read : Reader Expr) → Shallow most ps → Found read most e ps ts rest → read (ts ++ rest) ≡ reading.good e rest
-  deep_enough most e ps ts rest read s (inl h) = h
-  deep_enough most e ps ts rest read s (inr h) = absurd (h.1 s)
+  deep_enough : (most : ℕ) (e : Expr) (ps : List Piece) (ts rest : List Token) (read : Reader Expr) → AreWithin most ps → Found read most e ps ts rest → read (ts ++ rest) ≡ reading.good e rest
+  deep_enough most e ps ts rest read s (inl h) = h.0
+  deep_enough most e ps ts rest read s (inr h) = absurd (not_within most ps ts rest h.left h.place s)
 
   end_stops : Stops 0 (end_token ∷ [])
   unfolding FirstIs goes_by suffix_by spelled_by found_by
@@ -140,12 +132,12 @@ module _ (nesting : ℕ) where
   ends : (run : List Token) (e : Expr) → SpellsExpr nesting run e → BeginsOf (ExprAt nesting) (run ++ end_token ∷ []) → ⊥
   ends run e s b =
       let ps = wants_of_expr e nesting in
-      let d = deepest ps in
+      let d = limit_of ps in
       let size = length (run ++ end_token ∷ []) in
       let R : (k : ℕ) → Reads (At 0 nesting) (nesting + d) k (Stops 0) (readers_at k (suc d)).expr = λ k. (all_read (nesting + d) k (suc d) nesting (omega arith)).expr in
       let like : (k s t : ℕ) → k ≤ s → k ≤ t → Like k 0 (readers_at s (suc d)).expr (readers_at t (suc d)).expr = λ k s t enough also. like_any k _ _ (all_like k s t enough also (suc d)).expr in
       let found = (R size).all e ps run (end_token ∷ []) (record { grammar = s.grammar; wants = refl }) s.fits end_stops (omega arith) in
-      let read = deep_enough (nesting + d) e ps run (end_token ∷ []) (readers_at size (suc d)).expr (shallow_more d (nesting + d) (omega arith) ps (all_shallow ps)) found in
+      let read = deep_enough (nesting + d) e ps run (end_token ∷ []) (readers_at size (suc d)).expr (within_more d (nesting + d) (omega arith) ps (within_limit ps)) found in
       none_longer (At 0 nesting) (nesting + d) (Stops 0) (λ k. (readers_at k (suc d)).expr) R like [] nothing_stops size run [] end_token e (omega arith) read (to_begins (run ++ end_token ∷ []) b)
 
   -- ---- the reader
@@ -165,7 +157,7 @@ module _ (nesting : ℕ) where
         → (front : List Token) × ((ts ≡ front ++ rest) × (SpellsExpr nesting front e × AreShallow (wants_of_expr e nesting)))
     good_spells size ts e rest h =
         let g = (reads size).good ts e rest h in
-        (g.front, (g.whole, (record { grammar = g.spelled.grammar; fits = subst (λ u. Fits u g.front) g.spelled.wants g.fits }, to_shallow (wants_of_expr e nesting) (subst (λ u. Shallow 200 u) g.spelled.wants g.shallow))))
+        (g.front, (g.whole, (record { grammar = g.spelled.grammar; fits = subst (λ u. Fits u g.front) g.spelled.wants g.fits }, subst (λ u. AreWithin 200 u) g.spelled.wants g.shallow)))
 
     pub good_front : (size : ℕ) (ts : List Token) (e : Expr) (rest : List Token) → read size ts ≡ reading.good e rest → (front : List Token) × (ts ≡ front ++ rest)
     good_front size ts e rest h = let g = (reads size).good ts e rest h in (g.front, g.whole)
@@ -173,11 +165,11 @@ module _ (nesting : ℕ) where
     pub bad_front : (size : ℕ) (ts : List Token) (rest : List Token) → read size ts ≡ reading.bad rest → (front : List Token) × (ts ≡ front ++ rest)
     bad_front size ts rest h = let b = (reads size).bad ts rest h in (b.front, b.whole)
 
-    -- and what is an expression is good, where the end is behind it
+    -- and what is an expression is good, where the end is after it
     spelled_good : (size : ℕ) (run : List Token) (e : Expr) → length (run ++ end_token ∷ []) ≤ size → SpellsExpr nesting run e → AreShallow (wants_of_expr e nesting) → read size (run ++ end_token ∷ []) ≡ reading.good e (end_token ∷ [])
     spelled_good size run e small s shallow =
         let ps = wants_of_expr e nesting in
-        deep_enough 200 e ps run (end_token ∷ []) (read size) (from_shallow ps shallow) ((reads size).all e ps run (end_token ∷ []) (record { grammar = s.grammar; wants = refl }) s.fits end_stops small)
+        deep_enough 200 e ps run (end_token ∷ []) (read size) shallow ((reads size).all e ps run (end_token ∷ []) (record { grammar = s.grammar; wants = refl }) s.fits end_stops small)
 
     begins_deep : (ts rest : List Token) (d : Deep (At 0 nesting) 200 ts rest) → BeginsOf (ExprAt nesting) (d.front ++ d.token ∷ [])
     unfolding Fits
@@ -192,25 +184,25 @@ module _ (nesting : ℕ) where
     -- ---- an expression, and a token that is nested too deeply
 
     module _ (size : ℕ) (ts : List Token) (small : length ts ≤ size) where
-      pub taken_good : (e : Expr) (w : Token) (behind : List Token) → read size ts ≡ reading.good e (w ∷ behind) → IsTaken nesting ts e (length ts - length (w ∷ behind))
-      taken_good e w behind h =
-          let g = good_spells size ts e (w ∷ behind) h in
+      pub taken_good : (e : Expr) (w : Token) (following : List Token) → read size ts ≡ reading.good e (w ∷ following) → IsTaken nesting ts e (length ts - length (w ∷ following))
+      taken_good e w following h =
+          let g = good_spells size ts e (w ∷ following) h in
           record {
             run = g.0;
             token = w;
             longest = record {
-              behind = behind;
+              following = following;
               whole = g.1.0;
-              none = λ b. none_longer (At 0 nesting) 200 (Stops 0) read reads like [] nothing_stops size g.0 behind w e (subst (λ u. length u ≤ size) g.1.0 small) (ap (read size) (sym g.1.0) ∙ h) (to_begins (g.0 ++ w ∷ []) b);
+              none = λ b. none_longer (At 0 nesting) 200 (Stops 0) read reads like [] nothing_stops size g.0 following w e (subst (λ u. length u ≤ size) g.1.0 small) (ap (read size) (sym g.1.0) ∙ h) (to_begins (g.0 ++ w ∷ []) b);
             };
             spelled_ = g.1.1.0;
             shallow = g.1.1.1;
-            count_is = omega (arith, ap length g.1.0, length-append g.0 (w ∷ behind));
+            count_is = omega (arith, ap length g.1.0, length-append g.0 (w ∷ following));
           }
 
       first_deep : (l : List Token) (d : Deep (At 0 nesting) 200 ts l) → IsFirstDeep (ExprAt nesting) ts d.front d.token
       first_deep l d = record {
-        behind = d.behind;
+        following = d.following;
         whole = d.whole ∙ ap (λ u. d.front ++ u) d.first;
         tree = d.tree;
         pieces = d.pieces;
@@ -219,25 +211,25 @@ module _ (nesting : ℕ) where
         spelled_ = record { grammar = d.spelled.grammar; wants = d.spelled.wants };
         fits = d.fits;
         takes = d.takes;
-        shallow = to_shallow d.pieces d.shallow;
+        shallow = d.shallow;
         deep = d.deep;
       }
 
       first_of : (x y : Token) (xs ys l : List Token) → l ≡ x ∷ xs → l ≡ y ∷ ys → x ≡ y
       first_of x y xs ys l left right = cc
 
-      pub deep_is : (l : List Token) (w : Token) (behind : List Token) → l ≡ w ∷ behind → read size ts ≡ reading.deep l → IsFaultOf nesting ts (fault.Deep w.place)
+      pub deep_is : (l : List Token) (w : Token) (following : List Token) → l ≡ w ∷ following → read size ts ≡ reading.deep l → IsFaultOf nesting ts (fault.Deep w.place)
       unfolding IsFaultOf
-      deep_is l w behind is h =
+      deep_is l w following is h =
           let d = (reads size).deep ts l h in
-          (d.front, (d.token, (first_deep l d, ap (λ u. u.place) (first_of d.token w d.behind behind l d.first is))))
+          (d.front, (d.token, (first_deep l d, ap (λ u. u.place) (first_of d.token w d.following following l d.first is))))
 
-      deep_apart : (l : List Token) (d : Deep (At 0 nesting) 200 ts l) → read size ts ≡ reading.deep l → (run : List Token) (v : Token) (e : Expr) (r : IsRun nesting ts run v) → Parting d.front run d.token v d.behind r.behind
+      deep_apart : (l : List Token) (d : Deep (At 0 nesting) 200 ts l) → read size ts ≡ reading.deep l → (run : List Token) (v : Token) (e : Expr) (r : IsRun nesting ts run v) → Parting d.front run d.token v d.following r.following
           → SpellsExpr nesting run e → AreShallow (wants_of_expr e nesting) → ⊥
       deep_apart l d h run v e r (earlier between is tail) s shallow =
-          let short : length (run ++ end_token ∷ []) ≤ size = omega (arith, small, ap length r.whole, length-append run (v ∷ r.behind), length-append run (end_token ∷ [])) in
-          let here : read size (d.front ++ d.token ∷ d.behind) ≡ reading.deep (d.token ∷ d.behind) = ap (read size) (ap (λ u. d.front ++ u) (sym d.first) ∙ sym d.whole) ∙ h ∙ ap (λ u. reading.deep u) d.first in
-          let there : read size (d.front ++ d.token ∷ (between ++ end_token ∷ [])) ≡ reading.deep (d.token ∷ (between ++ end_token ∷ [])) = (reads size).local_deep d.front d.token d.behind (between ++ end_token ∷ []) here in
+          let short : length (run ++ end_token ∷ []) ≤ size = omega (arith, small, ap length r.whole, length-append run (v ∷ r.following), length-append run (end_token ∷ [])) in
+          let here : read size (d.front ++ d.token ∷ d.following) ≡ reading.deep (d.token ∷ d.following) = ap (read size) (ap (λ u. d.front ++ u) (sym d.first) ∙ sym d.whole) ∙ h ∙ ap (λ u. reading.deep u) d.first in
+          let there : read size (d.front ++ d.token ∷ (between ++ end_token ∷ [])) ≡ reading.deep (d.token ∷ (between ++ end_token ∷ [])) = (reads size).local_deep d.front d.token d.following (between ++ end_token ∷ []) here in
           let whole : run ++ end_token ∷ [] ≡ d.front ++ d.token ∷ (between ++ end_token ∷ []) = ap (λ u. u ++ end_token ∷ []) is ∙ append_assoc d.front (d.token ∷ between) (end_token ∷ []) in
           good_or_deep (read size (run ++ end_token ∷ [])) e (end_token ∷ []) (d.token ∷ (between ++ end_token ∷ [])) (spelled_good size run e short s shallow) (ap (read size) whole ∙ there)
       deep_apart l d h run v e r (same is first tail) s shallow = r.none (subst (BeginsOf (ExprAt nesting)) (ap (λ u. u ++ d.token ∷ []) is ∙ ap (λ u. run ++ u ∷ []) first) (begins_deep ts l d))
@@ -247,39 +239,39 @@ module _ (nesting : ℕ) where
       pub deep_none : (l : List Token) → read size ts ≡ reading.deep l → (run : List Token) (v : Token) (e : Expr) → IsRun nesting ts run v → SpellsExpr nesting run e → AreShallow (wants_of_expr e nesting) → ⊥
       deep_none l h run v e r s shallow =
           let d = (reads size).deep ts l h in
-          deep_apart l d h run v e r (parting d.front run d.token v d.behind r.behind (sym (d.whole ∙ ap (λ u. d.front ++ u) d.first) ∙ r.whole)) s shallow
+          deep_apart l d h run v e r (parting d.front run d.token v d.following r.following (sym (d.whole ∙ ap (λ u. d.front ++ u) d.first) ∙ r.whole)) s shallow
 
-    -- ---- a fault behind a run
+    -- ---- a fault after a run
 
-    module _ (size : ℕ) (run : List Token) (w : Token) (behind : List Token) (small : length (run ++ w ∷ behind) + 2 ≤ size) (bad : read size (run ++ w ∷ behind) ≡ reading.bad (w ∷ behind)) where
-      enough : length (run ++ w ∷ behind) ≤ size
+    module _ (size : ℕ) (run : List Token) (w : Token) (following : List Token) (small : length (run ++ w ∷ following) + 2 ≤ size) (bad : read size (run ++ w ∷ following) ≡ reading.bad (w ∷ following)) where
+      enough : length (run ++ w ∷ following) ≤ size
       enough = omega (arith, small)
 
       enough_alone : length (run ++ end_token ∷ []) ≤ size
-      enough_alone = omega (arith, small, length-append run (w ∷ behind), length-append run (end_token ∷ []))
+      enough_alone = omega (arith, small, length-append run (w ∷ following), length-append run (end_token ∷ []))
 
-      longest_bad : IsRun nesting (run ++ w ∷ behind) run w
-      longest_bad = record { behind = behind; whole = refl; none = λ b. none_begins (At 0 nesting) 200 (Stops 0) read reads like [] nothing_stops size run behind w enough bad (to_begins (run ++ w ∷ []) b) }
+      longest_bad : IsRun nesting (run ++ w ∷ following) run w
+      longest_bad = record { following = following; whole = refl; none = λ b. none_begins (At 0 nesting) 200 (Stops 0) read reads like [] nothing_stops size run following w enough bad (to_begins (run ++ w ∷ []) b) }
 
       -- nothing else is answered before the fault
       never_good : (front : List Token) (x : Token) (between : List Token) (tail : List Token) (e : Expr) → run ≡ front ++ x ∷ between → read size (front ++ x ∷ tail) ≡ reading.good e (x ∷ tail) → ⊥
       never_good front x between tail e is h =
-          let here : read size (front ++ x ∷ (between ++ w ∷ behind)) ≡ reading.good e (x ∷ (between ++ w ∷ behind)) = (reads size).local_good front x tail (between ++ w ∷ behind) e h in
-          let whole : run ++ w ∷ behind ≡ front ++ x ∷ (between ++ w ∷ behind) = ap (λ u. u ++ w ∷ behind) is ∙ append_assoc front (x ∷ between) (w ∷ behind) in
-          good_or_bad (read size (run ++ w ∷ behind)) e (x ∷ (between ++ w ∷ behind)) (w ∷ behind) (ap (read size) whole ∙ here) bad
+          let here : read size (front ++ x ∷ (between ++ w ∷ following)) ≡ reading.good e (x ∷ (between ++ w ∷ following)) = (reads size).local_good front x tail (between ++ w ∷ following) e h in
+          let whole : run ++ w ∷ following ≡ front ++ x ∷ (between ++ w ∷ following) = ap (λ u. u ++ w ∷ following) is ∙ append_assoc front (x ∷ between) (w ∷ following) in
+          good_or_bad (read size (run ++ w ∷ following)) e (x ∷ (between ++ w ∷ following)) (w ∷ following) (ap (read size) whole ∙ here) bad
 
       never_deep : (front : List Token) (x : Token) (between : List Token) (tail : List Token) → run ≡ front ++ x ∷ between → read size (front ++ x ∷ tail) ≡ reading.deep (x ∷ tail) → ⊥
       never_deep front x between tail is h =
-          let here : read size (front ++ x ∷ (between ++ w ∷ behind)) ≡ reading.deep (x ∷ (between ++ w ∷ behind)) = (reads size).local_deep front x tail (between ++ w ∷ behind) h in
-          let whole : run ++ w ∷ behind ≡ front ++ x ∷ (between ++ w ∷ behind) = ap (λ u. u ++ w ∷ behind) is ∙ append_assoc front (x ∷ between) (w ∷ behind) in
-          bad_or_deep (read size (run ++ w ∷ behind)) (w ∷ behind) (x ∷ (between ++ w ∷ behind)) bad (ap (read size) whole ∙ here)
+          let here : read size (front ++ x ∷ (between ++ w ∷ following)) ≡ reading.deep (x ∷ (between ++ w ∷ following)) = (reads size).local_deep front x tail (between ++ w ∷ following) h in
+          let whole : run ++ w ∷ following ≡ front ++ x ∷ (between ++ w ∷ following) = ap (λ u. u ++ w ∷ following) is ∙ append_assoc front (x ∷ between) (w ∷ following) in
+          bad_or_deep (read size (run ++ w ∷ following)) (w ∷ following) (x ∷ (between ++ w ∷ following)) bad (ap (read size) whole ∙ here)
 
       -- ---- the run alone
 
       last_by : (front : List Token) (x : Token) → Parting run front end_token x [] [] → run ≡ front
-      last_by front x (earlier between is tail) = absurd (nothing_behind between x [] tail)
+      last_by front x (earlier between is tail) = absurd (nothing_following between x [] tail)
       last_by front x (same is first tail) = is
-      last_by front x (later between is tail) = absurd (nothing_behind between end_token [] tail)
+      last_by front x (later between is tail) = absurd (nothing_following between end_token [] tail)
 
       last_one : (front rest : List Token) → run ++ end_token ∷ [] ≡ front ++ rest → length rest ≡ 1 → run ≡ front
       last_one front [] is one = absurd (omega (arith, one))
@@ -301,19 +293,19 @@ module _ (nesting : ℕ) where
       alone_by (reading.deep rest) found h is = absurd (cc)
 
       -- a run that is read alone is taken
-      pub taken_alone : (found : Expr) → alone (read size) run ≡ Some found → IsTaken nesting (run ++ w ∷ behind) found (length run)
+      pub taken_alone : (found : Expr) → alone (read size) run ≡ Some found → IsTaken nesting (run ++ w ∷ following) found (length run)
       taken_alone found is =
           let s = alone_by (read size (run ++ end_token ∷ [])) found refl is in
           record { run = run; token = w; longest = longest_bad; spelled_ = s.0; shallow = s.1; count_is = refl }
 
       -- ---- a run that isn't read alone is no expression
 
-      deep_by : (rest : List Token) (d : Deep (At 0 nesting) 200 (run ++ end_token ∷ []) rest) → read size (run ++ end_token ∷ []) ≡ reading.deep rest → Parting run d.front end_token d.token [] d.behind → (e : Expr) → SpellsExpr nesting run e → ⊥
-      deep_by rest d h (earlier between is tail) e s = nothing_behind between d.token d.behind tail
+      deep_by : (rest : List Token) (d : Deep (At 0 nesting) 200 (run ++ end_token ∷ []) rest) → read size (run ++ end_token ∷ []) ≡ reading.deep rest → Parting run d.front end_token d.token [] d.following → (e : Expr) → SpellsExpr nesting run e → ⊥
+      deep_by rest d h (earlier between is tail) e s = nothing_following between d.token d.following tail
       deep_by rest d h (same is first tail) e s =
           ends run e s (subst (BeginsOf (ExprAt nesting)) (ap (λ u. u ++ d.token ∷ []) (sym is) ∙ ap (λ u. run ++ u ∷ []) (sym first)) (begins_deep (run ++ end_token ∷ []) rest d))
       deep_by rest d h (later between is tail) e s =
-          never_deep d.front d.token between d.behind is (ap (read size) (ap (λ u. d.front ++ u) (sym d.first) ∙ sym d.whole) ∙ h ∙ ap (λ u. reading.deep u) d.first)
+          never_deep d.front d.token between d.following is (ap (read size) (ap (λ u. d.front ++ u) (sym d.first) ∙ sym d.whole) ∙ h ∙ ap (λ u. reading.deep u) d.first)
 
       not_alone : (e : Expr) (rest : List Token) → length rest ≡ 1 → (b : Bool) → (length rest == 1) ≡ b → (if b then Some e else None) ≡ None → ⊥
       not_alone e rest one true is none = cc
@@ -322,26 +314,26 @@ module _ (nesting : ℕ) where
       found_not : (answer : Answer Expr) → read size (run ++ end_token ∷ []) ≡ answer → all_but_one answer ≡ None → (e : Expr) → SpellsExpr nesting run e → Found (read size) 200 e (wants_of_expr e nesting) run (end_token ∷ []) → ⊥
       unfolding all_but_one
       found_not (reading.good a rest) h none e s (inl found) =
-          not_alone a rest (ap length (two_goods (read size (run ++ end_token ∷ [])) a e rest (end_token ∷ []) h found)) (length rest == 1) refl none
-      found_not (reading.good a rest) h none e s (inr found) = good_or_deep (read size (run ++ end_token ∷ [])) a rest found.0.0 h found.0.1
-      found_not (reading.bad rest) h none e s (inl found) = good_or_bad (read size (run ++ end_token ∷ [])) e (end_token ∷ []) rest found h
-      found_not (reading.bad rest) h none e s (inr found) = bad_or_deep (read size (run ++ end_token ∷ [])) rest found.0.0 h found.0.1
+          not_alone a rest (ap length (two_goods (read size (run ++ end_token ∷ [])) a e rest (end_token ∷ []) h found.0)) (length rest == 1) refl none
+      found_not (reading.good a rest) h none e s (inr found) = good_or_deep (read size (run ++ end_token ∷ [])) a rest found.left h found.is
+      found_not (reading.bad rest) h none e s (inl found) = good_or_bad (read size (run ++ end_token ∷ [])) e (end_token ∷ []) rest found.0 h
+      found_not (reading.bad rest) h none e s (inr found) = bad_or_deep (read size (run ++ end_token ∷ [])) rest found.left h found.is
       found_not (reading.deep rest) h none e s found =
           let d = (reads size).deep (run ++ end_token ∷ []) rest h in
-          deep_by rest d h (parting run d.front end_token d.token [] d.behind (d.whole ∙ ap (λ u. d.front ++ u) d.first)) e s
+          deep_by rest d h (parting run d.front end_token d.token [] d.following (d.whole ∙ ap (λ u. d.front ++ u) d.first)) e s
 
       pub broken_alone : alone (read size) run ≡ None → (e : Expr) → SpellsExpr nesting run e → ⊥
       broken_alone none e s =
           found_not (read size (run ++ end_token ∷ [])) refl none e s ((reads size).all e (wants_of_expr e nesting) run (end_token ∷ []) (record { grammar = s.grammar; wants = refl }) s.fits end_stops enough_alone)
 
-      -- ---- what could stand behind it
+      -- ---- what could stand after it
 
       module _ (none : alone (read size) run ≡ None) (s : Sample) where
         abbrev list : List Token
         list = run ++ sample_of s ∷ end_token ∷ []
 
         enough_list : length list ≤ size
-        enough_list = omega (arith, small, length-append run (w ∷ behind), length-append run (sample_of s ∷ end_token ∷ []))
+        enough_list = omega (arith, small, length-append run (w ∷ following), length-append run (sample_of s ∷ end_token ∷ []))
 
         good_by : (e : Expr) (front : List Token) (x : Token) (rest : List Token) → read size (front ++ x ∷ rest) ≡ reading.good e (x ∷ rest) → SpellsExpr nesting front e → Parting run front (sample_of s) x (end_token ∷ []) rest → BeginsOf (ExprAt nesting) (run ++ sample_of s ∷ [])
         good_by e front x rest h spells (earlier between is tail) = first_begins front run (sample_of s) between is (spelled_begins front e spells)
@@ -356,8 +348,8 @@ module _ (nesting : ℕ) where
         unfolding is_taken
         says_yes (reading.good e rest) h taken = let g = good_spells size list e rest h in can_good e rest g.0 h g.1.0 g.1.1.0
         says_yes (reading.bad rest) h taken =
-            from_begins (run ++ sample_of s ∷ []) (probing.can_bad (At 0 nesting) 200 (Stops 0) read reads like [] nothing_stops size run behind w bad (sample_of s) end_token rest (λ two. opposite (length rest == 2) taken (two_is (length rest) two)) h)
-        says_yes (reading.deep rest) h taken = from_begins (run ++ sample_of s ∷ []) (probing.can_deep (At 0 nesting) 200 (Stops 0) read reads like [] nothing_stops size run behind w bad (sample_of s) end_token rest h)
+            from_begins (run ++ sample_of s ∷ []) (probing.can_bad (At 0 nesting) 200 (Stops 0) read reads like [] nothing_stops size run following w bad (sample_of s) end_token rest (λ two. opposite (length rest == 2) taken (two_is (length rest) two)) h)
+        says_yes (reading.deep rest) h taken = from_begins (run ++ sample_of s ∷ []) (probing.can_deep (At 0 nesting) 200 (Stops 0) read reads like [] nothing_stops size run following w bad (sample_of s) end_token rest h)
 
         two_by : (front : List Token) (x : Token) (rest : List Token) → length (x ∷ rest) ≡ 2 → Parting run front (sample_of s) x (end_token ∷ []) rest → x ∷ rest ≡ sample_of s ∷ end_token ∷ []
         two_by front x rest two (earlier between is tail) = absurd (omega (arith, two, ap length tail, length-append between (x ∷ rest)))
@@ -382,29 +374,29 @@ module _ (nesting : ℕ) where
 
       -- ---- the fault
 
-      front_by : (front : List Token) → Parting run front w w behind behind → front ≡ run
-      front_by front (earlier between is tail) = absurd (omega (arith, ap length tail, length-append between (w ∷ behind)))
+      front_by : (front : List Token) → Parting run front w w following following → front ≡ run
+      front_by front (earlier between is tail) = absurd (omega (arith, ap length tail, length-append between (w ∷ following)))
       front_by front (same is first tail) = sym is
-      front_by front (later between is tail) = absurd (omega (arith, ap length tail, length-append between (w ∷ behind)))
+      front_by front (later between is tail) = absurd (omega (arith, ap length tail, length-append between (w ∷ following)))
 
-      front_of_bad : Bad (At 0 nesting) 200 (run ++ w ∷ behind) (w ∷ behind) → (b : BeginsOf (ExprAt nesting) run) × AreShallow b.pieces
+      front_of_bad : Bad (At 0 nesting) 200 (run ++ w ∷ following) (w ∷ following) → (b : BeginsOf (ExprAt nesting) run) × AreShallow b.pieces
       front_of_bad b =
-          let is : b.front ≡ run = front_by b.front (parting run b.front w w behind behind b.whole) in
-          (record { tree = b.tree; pieces = b.pieces; missing = b.missing; spelled_ = record { grammar = b.spelled.grammar; wants = b.spelled.wants }; fits = subst (λ u. Fits b.pieces u) is b.fits }, to_shallow b.pieces b.shallow)
+          let is : b.front ≡ run = front_by b.front (parting run b.front w w following following b.whole) in
+          (record { tree = b.tree; pieces = b.pieces; missing = b.missing; spelled_ = record { grammar = b.spelled.grammar; wants = b.spelled.wants }; fits = subst (λ u. Fits b.pieces u) is b.fits }, b.shallow)
 
-      unread : (none : alone (read size) run ≡ None) → IsUnreadRun nesting (run ++ w ∷ behind) run w (names_construct (can_stand (read size) run) run w)
+      unread : (none : alone (read size) run ≡ None) → IsUnreadRun nesting (run ++ w ∷ following) run w (names_construct (can_stand (read size) run) run w)
       unread none =
-          let b = front_of_bad ((reads size).bad (run ++ w ∷ behind) (w ∷ behind) bad) in
-          record { unread = record { first = record { behind = behind; whole = refl; begins = b.0; shallow = b.1; none = longest_bad.none }; can = can_stand (read size) run; asked = tells none; names = refl }; broken = broken_alone none }
+          let b = front_of_bad ((reads size).bad (run ++ w ∷ following) (w ∷ following) bad) in
+          record { unread = record { first = record { following = following; whole = refl; begins = b.0; shallow = b.1; none = longest_bad.none }; can = can_stand (read size) run; asked = tells none; names = refl }; broken = broken_alone none }
 
-      named_fault : (b : Bool) → IsUnreadRun nesting (run ++ w ∷ behind) run w b → IsFaultOf nesting (run ++ w ∷ behind) (if b then fault.Construct (named_word w) w.place else fault.Expected w.place)
+      named_fault : (b : Bool) → IsUnreadRun nesting (run ++ w ∷ following) run w b → IsFaultOf nesting (run ++ w ∷ following) (if b then fault.Construct (named_word w) w.place else fault.Expected w.place)
       unfolding IsFaultOf
       named_fault true u = (run, (w, (u, refl, refl)))
       named_fault false u = (run, (w, (u, refl)))
 
-      pub fault_is : (none : alone (read size) run ≡ None) → IsFaultOf nesting (run ++ w ∷ behind) (fault_of (can_stand (read size) run) run w)
+      pub fault_is : (none : alone (read size) run ≡ None) → IsFaultOf nesting (run ++ w ∷ following) (fault_of (can_stand (read size) run) run w)
       unfolding fault_of
       fault_is none = named_fault (names_construct (can_stand (read size) run) run w) (unread none)
 
-      pub fault_none : (none : alone (read size) run ≡ None) (other : List Token) (v : Token) (expr : Expr) → IsRun nesting (run ++ w ∷ behind) other v → SpellsExpr nesting other expr → ⊥
-      fault_none none other v expr r s = unread_none (run ++ w ∷ behind) run w (names_construct (can_stand (read size) run) run w) (unread none) other v expr r s
+      pub fault_none : (none : alone (read size) run ≡ None) (other : List Token) (v : Token) (expr : Expr) → IsRun nesting (run ++ w ∷ following) other v → SpellsExpr nesting other expr → ⊥
+      fault_none none other v expr r s = unread_none (run ++ w ∷ following) run w (names_construct (can_stand (read size) run) run w) (unread none) other v expr r s

@@ -1,23 +1,3 @@
-pub mod Agreeing
+-- what is answered of a list, in terms of its longest run
 pub mod Answering
-pub mod Chaining
-pub mod Chains
-pub mod Depths
-pub mod Dimensioning
-pub mod Enums
-pub mod Levels
-pub mod Literals
-pub mod Members
-pub mod Oneness
-pub mod Primaries
 pub mod Returning
-pub mod Sizing
-pub mod Specifying
-pub mod Starting
-pub mod Suffixes
-pub mod Tags
-pub mod Tokening
-pub mod Typing
-pub mod Unaries
-pub mod Wholes
-pub mod Words

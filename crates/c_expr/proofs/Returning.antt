@@ -1,5 +1,5 @@
 -- What the functions that read a run return, by what the reader of expressions answers them.
-use Rattle.std.proofs.Common.{◌≡◌, ◌≤◌, ◌<◌, ℕ, ◌+◌, ◌-◌, ◌==◌, Bool, true, false, not, if◌then◌else◌, List, [], ◌∷◌, ◌++◌, length, take, drop, get_or, Some, None, refl, sym, ap, ◌∙◌, subst, arith}
+use Rattle.std.proofs.Common.{◌≡◌, ◌≤◌, ◌<◌, ℕ, ◌+◌, ◌-◌, ◌==◌, Bool, true, false, if◌then◌else◌, List, [], ◌∷◌, ◌++◌, length, take, drop, get_or, Some, None, Result, Ok, Err, refl, sym, ap, ◌∙◌, subst, arith}
 use Rattle.std.proofs.lemmas.List.{append-nil, length-append}
 use Rattle.std.specs.Bool.{then_some}
 use Rattle.c_tree.specs.TokenLists.{is_closed}
@@ -8,18 +8,22 @@ use Rattle.c_tree.specs.declared.token.Token.{Token}
 use Rattle.c_tree.specs.declared.expressions.Expr.{Expr}
 use Rattle.c_reader.specs.Reading.{Answer}
 use Rattle.c_reader.specs.Reading as reading
-use Rattle.c_expr.specs.Levels.{readers_at}
+use Rattle.c_grammar.specs.Levels.{readers_at}
 use Rattle.c_reader.specs.Alone.{all_but_one, alone, fault_of}
 use Rattle.c_reader.specs.Depths.{AreShallow}
-use Rattle.c_expr.specs.Runs.{SpellsExpr, IsRun, IsTaken, IsFaultOf}
+use Rattle.c_reader.specs.Closures.{Tried}
+use Rattle.c_reader.specs.Outcome.{Gives}
+use Rattle.c_reader.specs.declared.unread.Unread.{Unread}
+use Rattle.c_grammar.specs.Spelled.{SpellsExpr}
+use Rattle.c_expr.specs.Runs.{IsRun, IsTaken, IsFaultOf}
 use Rattle.c_reader.specs.Samples.{is_taken, can_stand}
 use Rattle.c_reader.specs.declared.faults.SyntaxFault.{SyntaxFault}
 use Rattle.c_reader.specs.declared.faults.SyntaxFault.TheVariants as fault
 use Rattle.c_expr.proofs.Answering.{good_front, bad_front, taken_good, deep_is, deep_none, taken_alone, fault_is, fault_none}
-use Rattle.c_reader.proofs.Ending.{front_is, behind_is}
+use Rattle.c_reader.proofs.Ending.{front_is, following_is}
 use Rattle.c_reader.proofs.Truths.{not_true}
 
--- ---- what an answer tells of a list with an end behind it
+-- ---- what an answer tells of a list with an end after it
 
 some_when : (b : Bool) (e : Expr) → (if b then Some e else None) ≡ then_some b e
 some_when true e = refl
@@ -37,28 +41,22 @@ pub all_of_deep : (answer : Answer Expr) (rest : List Token) → answer ≡ read
 unfolding all_but_one
 all_of_deep answer rest h = ap (λ u. all_but_one u) h
 
-pub taken_if_good : (answer : Answer Expr) (e : Expr) (rest : List Token) → answer ≡ reading.good e rest → is_taken answer ≡ true
+-- what is returned tells whether the list is taken
+pub tried : {A : Type 0} (answer : Answer A) (r : Result A Unread) (left : List Token) → Gives answer r left → Tried (is_taken answer) r left
 unfolding is_taken
-taken_if_good answer e rest h = ap (λ u. is_taken u) h
-
-pub taken_if_bad : (answer : Answer Expr) (rest : List Token) → answer ≡ reading.bad rest → is_taken answer ≡ not (length rest == 2)
-unfolding is_taken
-taken_if_bad answer rest h = ap (λ u. is_taken u) h
-
-pub taken_if_deep : (answer : Answer Expr) (rest : List Token) → answer ≡ reading.deep rest → is_taken answer ≡ true
-unfolding is_taken
-taken_if_deep answer rest h = ap (λ u. is_taken u) h
+tried answer (Ok tree) left h = ap is_taken h
+tried answer (Err fault) left h = ((λ is. ap is_taken (h.0 is)), (λ is. ap is_taken (h.1 is)))
 
 -- ---- what is read at once
 
 record First (tokens : List Token) : Type 0 where
   pub token : Token
-  pub behind : List Token
-  pub is : tokens ≡ token ∷ behind
+  pub following : List Token
+  pub is : tokens ≡ token ∷ following
 
 first : (tokens : List Token) → is_closed tokens ≡ true → First tokens
 first [] closed = absurd (not_true closed)
-first (token ∷ behind) closed = record { token = token; behind = behind; is = refl }
+first (token ∷ following) closed = record { token = token; following = following; is = refl }
 
 module _ (nesting : ℕ) (low : nesting ≤ 200) (size : ℕ) (ts from l : List Token) (n : ℕ) (enough : length ts ≤ size) (from_is : from ≡ ts ++ []) (count : n ≡ length l) where
   abbrev read : List Token → Answer Expr
@@ -77,10 +75,10 @@ module _ (nesting : ℕ) (low : nesting ≤ 200) (size : ℕ) (ts from l : List 
   taken closed e h =
       let f = first l closed in
       subst (λ k. IsTaken nesting ts e (length ts - k)) (ap length (sym f.is) ∙ sym count)
-      (taken_good nesting low size ts enough e f.token f.behind (of_list (reading.good e l) h ∙ ap (λ u. reading.good e u) f.is))
+      (taken_good nesting low size ts enough e f.token f.following (of_list (reading.good e l) h ∙ ap (λ u. reading.good e u) f.is))
 
-  pub too_deep : (w : Token) (behind : List Token) → l ≡ w ∷ behind → read from ≡ reading.deep l → IsFaultOf nesting ts (fault.Deep w.place)
-  too_deep w behind is h = deep_is nesting low size ts enough l w behind is (of_list (reading.deep l) h)
+  pub too_deep : (w : Token) (following : List Token) → l ≡ w ∷ following → read from ≡ reading.deep l → IsFaultOf nesting ts (fault.Deep w.place)
+  too_deep w following is h = deep_is nesting low size ts enough l w following is (of_list (reading.deep l) h)
 
   pub never_too_deep : read from ≡ reading.deep l → (run : List Token) (v : Token) (e : Expr) → IsRun nesting ts run v → SpellsExpr nesting run e → AreShallow (wants_of_expr e nesting) → ⊥
   never_too_deep h run v e r s shallow = deep_none nesting low size ts enough l (of_list (reading.deep l) h) run v e r s shallow
@@ -88,7 +86,7 @@ module _ (nesting : ℕ) (low : nesting ≤ 200) (size : ℕ) (ts from l : List 
   -- the list in two parts, of which the second begins with the fault
   module _ (run rest : List Token) (run_is : run ≡ take (length ts - n) ts) (rest_is : rest ≡ drop (length ts - n) ts) (bad : read from ≡ reading.bad l) where
     rest_same : rest ≡ l
-    rest_same = let g = bad_front nesting low size ts l (of_list (reading.bad l) bad) in rest_is ∙ ap (λ k. drop (length ts - k) ts) count ∙ behind_is ts g.0 l g.1
+    rest_same = let g = bad_front nesting low size ts l (of_list (reading.bad l) bad) in rest_is ∙ ap (λ k. drop (length ts - k) ts) count ∙ following_is ts g.0 l g.1
 
     pub parts : run ++ rest ≡ ts
     parts =
@@ -110,15 +108,15 @@ at_nesting nesting size = (readers_at size (201 - nesting)).expr
 pub run_taken : (nesting : ℕ) → nesting ≤ 200 → (size : ℕ) (run rest : List Token) → 0 < length rest → length (run ++ rest) + 2 ≤ size → at_nesting nesting size (run ++ rest) ≡ reading.bad rest
     → (found : Expr) → alone (at_nesting nesting size) run ≡ Some found → IsTaken nesting (run ++ rest) found (length run)
 run_taken nesting low size run [] some small bad found is = absurd (omega (arith, some))
-run_taken nesting low size run (w ∷ behind) some small bad found is = taken_alone nesting low size run w behind small bad found is
+run_taken nesting low size run (w ∷ following) some small bad found is = taken_alone nesting low size run w following small bad found is
 
 pub run_fault : (nesting : ℕ) → nesting ≤ 200 → (size : ℕ) (run rest : List Token) → 0 < length rest → length (run ++ rest) + 2 ≤ size → at_nesting nesting size (run ++ rest) ≡ reading.bad rest
     → alone (at_nesting nesting size) run ≡ None → (w : Token) → w ≡ get_or rest 0 w → (f : SyntaxFault) → f ≡ fault_of (can_stand (at_nesting nesting size) run) run w → IsFaultOf nesting (run ++ rest) f
 run_fault nesting low size run [] some small bad none w is f named = absurd (omega (arith, some))
-run_fault nesting low size run (v ∷ behind) some small bad none w is f named =
-    subst (IsFaultOf nesting (run ++ v ∷ behind)) (sym (named ∙ ap (λ u. fault_of (can_stand (at_nesting nesting size) run) run u) is)) (fault_is nesting low size run v behind small bad none)
+run_fault nesting low size run (v ∷ following) some small bad none w is f named =
+    subst (IsFaultOf nesting (run ++ v ∷ following)) (sym (named ∙ ap (λ u. fault_of (can_stand (at_nesting nesting size) run) run u) is)) (fault_is nesting low size run v following small bad none)
 
 pub run_none : (nesting : ℕ) → nesting ≤ 200 → (size : ℕ) (run rest : List Token) → 0 < length rest → length (run ++ rest) + 2 ≤ size → at_nesting nesting size (run ++ rest) ≡ reading.bad rest
     → alone (at_nesting nesting size) run ≡ None → (before : List Token) (v : Token) (e : Expr) → IsRun nesting (run ++ rest) before v → SpellsExpr nesting before e → ⊥
 run_none nesting low size run [] some small bad none before v e r s = absurd (omega (arith, some))
-run_none nesting low size run (w ∷ behind) some small bad none before v e r s = fault_none nesting low size run w behind small bad none before v e r s
+run_none nesting low size run (w ∷ following) some small bad none before v e r s = fault_none nesting low size run w following small bad none before v e r s

@@ -1,8 +1,4 @@
-pub mod Counting
-pub mod CountsCode
-pub mod Expressions
-pub mod Levels
+-- function values that read parts of specifiers
 pub mod Nested
+-- the longest run of tokens with which an expression begins
 pub mod Runs
-pub mod Tokens
-pub mod Types

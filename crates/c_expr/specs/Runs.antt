@@ -1,30 +1,20 @@
 -- Which expressions begin with some tokens, the longest run of tokens with which one begins, and which token of a list a fault names
 -- (C11 6.5).
-use Rattle.std.specs.Prelude.{◌≡◌, ◌≤◌, ◌<◌, ℕ, Bool, true, false, List, [], ◌∷◌, ◌++◌, length}
-use Rattle.c_tree.specs.Pieces.{Piece, Fits}
+use Rattle.std.specs.Prelude.{◌≡◌, ℕ, Bool, true, false, List, [], ◌∷◌, ◌++◌, length}
 use Rattle.c_reader.specs.Depths.{AreShallow}
 use Rattle.c_reader.specs.Firsts.{BeginsOf, IsFirstDeep, IsUnread}
-use Rattle.c_tree.specs.Folds.{wants_of_expr, binds}
+use Rattle.c_tree.specs.Folds.{wants_of_expr}
 use Rattle.c_tree.specs.declared.token.Token.{Token}
 use Rattle.c_tree.specs.declared.expressions.Expr.{Expr}
 use Rattle.c_reader.specs.Faults.{named_word}
+use Rattle.c_grammar.specs.Spelled.{SpellsExpr, ExprAt}
 use Rattle.c_reader.specs.declared.faults.SyntaxFault.{SyntaxFault}
 use Rattle.c_reader.specs.declared.faults.SyntaxFault.TheVariants as fault
 
--- the tokens are those of the expression, which is nested so deeply
-pub record SpellsExpr (nesting : ℕ) (tokens : List Token) (expr : Expr) : Type 0 where
-  pub grammar : binds expr 0 ≡ true
-  pub fits : Fits (wants_of_expr expr nesting) tokens
-
--- expressions of the grammar, each with its pieces
-pub record ExprAt (nesting : ℕ) (expr : Expr) (pieces : List Piece) : Type 0 where
-  pub grammar : binds expr 0 ≡ true
-  pub wants : pieces ≡ wants_of_expr expr nesting
-
--- the run is the longest with which some expression begins, and the token stands behind it
+-- the run is the longest with which some expression begins, and the token stands after it
 pub record IsRun (nesting : ℕ) (tokens run : List Token) (token : Token) : Type 0 where
-  pub behind : List Token
-  pub whole : tokens ≡ run ++ token ∷ behind
+  pub following : List Token
+  pub whole : tokens ≡ run ++ token ∷ following
   pub none : BeginsOf (ExprAt nesting) (run ++ token ∷ []) → ⊥
 
 -- the run is an expression, of so many tokens

@@ -2,13 +2,14 @@
 //! them with one level less.
 
 ghost use Rattle.std.specs.Prelude.{◌<◌, ◌-◌};
-ghost use Rattle.c_expr.specs.Levels.{readers_at};
+ghost use Rattle.c_grammar.specs.Levels.{readers_at};
 ghost use Rattle.c_reader.specs.Outcome.{Gives};
-ghost use Rattle.c_expr.specs.Types as types;
+ghost use Rattle.c_grammar.specs.Types as types;
 
-use crate::grammar::Grammar;
 use crate::sizes::Sizes;
-use crate::tokens::{no_expr, no_specs};
+use crate::types::TypeRules;
+use c_grammar::{no_expr, no_specs};
+use c_operand::Grammar;
 use c_reader::{Cursor, Unread};
 use c_tree::{Dimension, Expr, Specifiers, TagSpecifier};
 use sqlite_items::Items;
@@ -65,15 +66,14 @@ pub fn specs(
     if left == 0 {
         return Err(no_specs(cursor));
     }
-    let grammar = Grammar {
+    let rules = TypeRules {
         alloc,
         size,
         left,
-        unary,
         expr,
         specs,
     };
-    grammar.specs(cursor)
+    rules.specs(cursor)
 }
 
 /// The dimensions of a declared name.
@@ -104,13 +104,12 @@ pub fn tag(
     requires { 0 < left }
     ensures { Gives (types.read_tag size left (readers_at size (left - 1)) (readers_at size left).expr cursor.old) result cursor.new }
 {
-    let grammar = Grammar {
+    let rules = TypeRules {
         alloc,
         size,
         left,
-        unary,
         expr,
         specs,
     };
-    grammar.tag(cursor)
+    rules.tag(cursor)
 }

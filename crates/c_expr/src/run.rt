@@ -6,20 +6,18 @@ ghost use Rattle.c_tree.specs.Folds.{wants_of_expr};
 ghost use Rattle.c_tree.specs.declared.token.Token.{Token};
 ghost use Rattle.c_tree.specs.declared.expressions.Expr.{Expr};
 ghost use Rattle.c_reader.specs.Alone as spec;
-ghost use Rattle.c_expr.specs.Levels.{readers_at};
+ghost use Rattle.c_grammar.specs.Levels.{readers_at};
 ghost use Rattle.c_reader.specs.Reading.{bad};
-ghost use Rattle.c_reader.specs.Depths.{AreShallow};
-ghost use Rattle.c_expr.specs.Runs.{SpellsExpr, IsRun, IsTaken, IsFaultOf};
+ghost use Rattle.c_reader.specs.Depths.{most_nesting, all_levels, AreShallow};
+ghost use Rattle.c_expr.specs.Runs.{IsRun, IsTaken, IsFaultOf};
+ghost use Rattle.c_grammar.specs.Spelled.{SpellsExpr};
 ghost use Rattle.c_reader.specs.Samples as samples;
 
 use crate::nesting::expr;
-use c_reader::{Cursor, Sample, SyntaxFault, Unread, end, fault_at, names_construct};
+use c_reader::{Cursor, LEVELS, SyntaxFault, Unread, end, fault_after};
 use c_tree::{Expr, Token, Tokens};
 use hy_bits::Memory;
 use std::alloc::Global;
-
-/// How many levels of nesting there are, that outside of everything among them.
-const LEVELS: u32 = 201;
 
 /// The expression that the tokens are, if they are one and it isn't nested too deeply.
 fn alone(alloc: Global, tokens: &[Token], size: usize, left: u32) -> Result<Option<Expr>, Memory>
@@ -37,50 +35,7 @@ fn alone(alloc: Global, tokens: &[Token], size: usize, left: u32) -> Result<Opti
     }
 }
 
-/// Whether the sample could stand behind these tokens, with which an expression begins but which are none.
-fn can_stand(
-    alloc: Global,
-    before: &[Token],
-    size: usize,
-    left: u32,
-    sample: Sample,
-) -> Result<bool, Memory>
-    requires closed { is_closed (before.now ++ samples.sample_of sample ∷ samples.end_token ∷ []) ≡ true }
-    requires few { length before.now + 2 < 2 ^ 64 }
-    ensures { IfOk result (λ b. b ≡ samples.can_stand (readers_at size left).expr before.now sample) }
-{
-    let tail = sample.with_end(alloc)?;
-    let mut cursor = Cursor::new(before, tail.as_slice());
-    match expr(alloc, &mut cursor, size, left) {
-        Ok(_) => Ok(true),
-        Err(Unread::Bad) => Ok(cursor.left() != 2),
-        Err(Unread::Deep) => Ok(true),
-        Err(Unread::Memory) => Err(Memory),
-    }
-}
-
-/// The fault at a token that can't be used behind these, with which an expression begins but which are none.
-#[tactic(auto, using(c_reader::proofs::Ending::probe_closed), unfolding(c_reader::specs::Alone::fault_of))]
-fn fault_behind(
-    alloc: Global,
-    before: &[Token],
-    token: &Token,
-    size: usize,
-    left: u32,
-) -> Result<SyntaxFault, Memory>
-    requires closed { is_closed (before.now ++ samples.end_token ∷ []) ≡ true }
-    requires few { length before.now + 2 < 2 ^ 64 }
-    ensures { IfOk result (λ fault. fault ≡ spec.fault_of (samples.can_stand (readers_at size left).expr before.now) before.now token.now) }
-{
-    let construct = names_construct(
-        before,
-        token,
-        |sample| can_stand(alloc, before, size, left, sample),
-    )?;
-    fault_at(alloc, token, construct)
-}
-
-/// The expression that a longest run is, or the fault at the token behind it. Of a list that isn't read at once, the run is
+/// The expression that a longest run is, or the fault at the token after it. Of a list that isn't read at once, the run is
 /// the part before the first token that doesn't fit, and the rest begins with that.
 #[tactic(auto, unfolding(crate::specs::Runs::IsFaultOf))]
 fn of_run(
@@ -92,8 +47,8 @@ fn of_run(
     requires closed { is_closed (run.now ++ rest.now) ≡ true }
     requires some { 0 < length rest.now }
     requires few { length run.now + length rest.now + 2 < 2 ^ 64 }
-    requires nested { nesting ≤ 200 }
-    requires unread { (readers_at (length run.now + length rest.now + 2) (201 - nesting)).expr (run.now ++ rest.now) ≡ bad rest.now }
+    requires nested { nesting ≤ most_nesting }
+    requires unread { (readers_at (length run.now + length rest.now + 2) (all_levels - nesting)).expr (run.now ++ rest.now) ≡ bad rest.now }
     ensures taken { IfOk result (λ found. IsTaken nesting (run.now ++ rest.now) found.0 found.1) }
     ensures fault { IfErr result (λ fault. IsFaultOf nesting (run.now ++ rest.now) fault) }
     ensures whole { (before : List Token) (token : Token) (expr : Expr) → IsRun nesting (run.now ++ rest.now) before token → SpellsExpr nesting before expr → MatchResult result (λ found. Unit {0}) (λ fault. fault ≡ SyntaxFault.Memory) }
@@ -102,7 +57,12 @@ fn of_run(
     let left = LEVELS - nesting;
     match alone(alloc, run, size, left)? {
         Some(found) => Ok((found, run.len())),
-        None => Err(fault_behind(alloc, run, &rest[0], size, left)?),
+        None => Err(fault_after(
+            alloc,
+            run,
+            &rest[0],
+            |cursor| expr(alloc, cursor, size, left),
+        )?),
     }
 }
 
@@ -111,7 +71,7 @@ fn of_run(
 fn longest(alloc: Global, list: &[Token], nesting: u32) -> Result<(Expr, usize), SyntaxFault>
     requires closed { is_closed list.now ≡ true }
     requires few { length list.now + 2 < 2 ^ 64 }
-    requires nested { nesting ≤ 200 }
+    requires nested { nesting ≤ most_nesting }
     ensures taken { IfOk result (λ found. IsTaken nesting list.now found.0 found.1) }
     ensures fault { IfErr result (λ fault. IsFaultOf nesting list.now fault) }
     ensures whole { (run : List Token) (token : Token) (expr : Expr) → IsRun nesting list.now run token → SpellsExpr nesting run expr → AreShallow (wants_of_expr expr nesting) → MatchResult result (λ found. Unit {0}) (λ fault. fault ≡ SyntaxFault.Memory) }
@@ -128,9 +88,14 @@ fn longest(alloc: Global, list: &[Token], nesting: u32) -> Result<(Expr, usize),
     }
 }
 
-/// The longest run of tokens from `at` on with which some expression begins, whose own tokens are nested `nesting` levels
-/// deep: where it is an expression, that and the place behind it, and elsewhere the fault at the token behind the run. The
-/// time is linear in the tokens of the run, which is read at most five times.
+/// The longest run of `tokens` from the one numbered `at` on with which some expression begins, whose own tokens are nested
+/// `nesting` levels deep: where the run is an expression, that and the number of the token after it. The time is linear in the
+/// number of the run's tokens, which are read at most five times.
+///
+/// # Errors
+///
+/// Where the run is no expression, `Expected` and `Construct` stand at the token after it, and `Deep` before that at the first
+/// token that is nested too deeply. `Memory` tells that memory ran out.
 pub fn expression(
     alloc: Global,
     tokens: &Tokens,
@@ -138,10 +103,10 @@ pub fn expression(
     nesting: u32,
 ) -> Result<(Expr, u32), SyntaxFault>
     requires within { at < length tokens.now }
-    requires nested { nesting ≤ 200 }
-    // The tokens up to the place behind are the longest run, and it is the expression. None is nested more deeply than 200.
+    requires nested { nesting ≤ most_nesting }
+    // The tokens up to the place after are the longest run, and it is the expression. None is nested more deeply than 200.
     ensures taken { IfOk result (λ found. (count : ℕ) × (IsTaken nesting (drop at tokens.now) found.0 count × (found.1 ≡ at + count))) }
-    // The fault is at the token behind the longest run, which is no expression, or before it at one that is nested too deeply.
+    // The fault is at the token after the longest run, which is no expression, or before it at one that is nested too deeply.
     ensures fault { IfErr result (λ fault. IsFaultOf nesting (drop at tokens.now) fault) }
     // A longest run that is an expression, and not nested too deeply, is taken, unless memory runs out.
     ensures whole { (run : List Token) (token : Token) (expr : Expr) → IsRun nesting (drop at tokens.now) run token → SpellsExpr nesting run expr → AreShallow (wants_of_expr expr nesting) → MatchResult result (λ found. (found.0 ≡ expr) × (found.1 ≡ at + length run)) (λ fault. fault ≡ SyntaxFault.Memory) }

@@ -1,9 +1,9 @@
 //! Dimensions of declared names (C11 6.7.6.2).
 
-ghost use Rattle.c_expr.specs.Levels.{readers_at};
+ghost use Rattle.c_grammar.specs.Levels.{readers_at};
 ghost use Rattle.c_reader.specs.Nested.{ReadsBy};
 ghost use Rattle.c_reader.specs.Outcome.{Gives};
-ghost use Rattle.c_expr.specs.Types as spec;
+ghost use Rattle.c_grammar.specs.Types as spec;
 
 use c_reader::{Cursor, Unread, is_mark, many};
 use c_tree::{Dimension, Expr};
@@ -29,8 +29,8 @@ impl<E: Fn(Global, &mut Cursor<'_>, usize, u32) -> Result<Expr, Unread>> Sizes<E
         (self.expr)(self.alloc, cursor, self.size, self.left)
     }
 
-    /// `[expr]`, in front of a closing bracket.
-    #[tactic(auto, using(c_reader::proofs::Gathering::choose_sees), unfolding(crate::specs::Types::read_size))]
+    /// `[expr]`, before a closing bracket.
+    #[tactic(auto, using(c_reader::proofs::Gathering::choose_sees), unfolding(c_grammar::specs::Types::read_size))]
     fn number(&self, cursor: &mut Cursor<'_>) -> Result<Option<Expr>, Unread>
         requires { ReadsBy (readers_at self.now.size self.now.left).expr self.now.size self.now.left (E.pre self.now.expr) (E.post self.now.expr) }
         ensures { Gives (spec.read_size (readers_at self.now.size self.now.left).expr cursor.old) result cursor.new }
@@ -43,7 +43,7 @@ impl<E: Fn(Global, &mut Cursor<'_>, usize, u32) -> Result<Expr, Unread>> Sizes<E
     }
 
     /// `"[" [expr] "]"`
-    #[tactic(auto, unfolding(crate::specs::Types::read_dimension))]
+    #[tactic(auto, unfolding(c_grammar::specs::Types::read_dimension))]
     fn dimension(&self, cursor: &mut Cursor<'_>) -> Result<Dimension, Unread>
         requires { ReadsBy (readers_at self.now.size self.now.left).expr self.now.size self.now.left (E.pre self.now.expr) (E.post self.now.expr) }
         ensures { Gives (spec.read_dimension self.now.left (readers_at self.now.size self.now.left).expr cursor.old) result cursor.new }

@@ -13,7 +13,7 @@ use Rattle.c_reader.proofs.Choosing.{FirstIs, Either, this, that}
 abbrev pub Begins : {A : Type 0} → Language A → (Token → Bool) → Bool → Type 0
 Begins {A = A} L test b = (tree : A) (ps : List Piece) (front rest : List Token) → L tree ps → Fits ps front → FirstIs test b (front ++ rest)
 
--- the same where it may stand behind the tree, which may have none
+-- the same where it may stand after the tree, which may have none
 abbrev pub BeginsBefore : {A : Type 0} → Language A → (List Token → Type 0) → (Token → Bool) → Bool → Type 0
 BeginsBefore {A = A} L Stops test b = (tree : A) (ps : List Piece) (front rest : List Token) → L tree ps → Fits ps front → Stops rest → FirstIs test b (front ++ rest)
 
@@ -23,8 +23,8 @@ begins_before L Stops test b begins tree ps front rest is fits stop = begins tre
 pub begins_both : {A C : Type 0} (L : Language A) (K : A → Language C) (test : Token → Bool) (b : Bool) → Begins L test b → Begins (Both L K) test b
 begins_both L K test b begins c ps front rest both fits =
     let parted = fits_part both.pieces1 both.pieces2 front (subst (λ u. Fits u front) both.whole fits) in
-    subst (λ u. FirstIs test b u) (sym (ap (λ u. u ++ rest) parted.whole ∙ append_assoc parted.front parted.behind rest))
-    (begins both.first both.pieces1 parted.front (parted.behind ++ rest) both.left parted.left)
+    subst (λ u. FirstIs test b u) (sym (ap (λ u. u ++ rest) parted.whole ∙ append_assoc parted.front parted.following rest))
+    (begins both.first both.pieces1 parted.front (parted.following ++ rest) both.left parted.left)
 
 begins_one : (piece : Piece) (test : Token → Bool) (b : Bool) → ((w : Token) → Takes piece w → test w ≡ b) → (ps : List Piece) (front rest : List Token) → ps ≡ piece ∷ [] → Fits ps front → FirstIs test b (front ++ rest)
 unfolding Fits FirstIs

@@ -57,18 +57,18 @@ module _ {A : Type 0} (L M : Language A) (most size : ℕ) (Stops : List Token �
   choose_deep : (b : Bool) (ts : List Token) → first_test test ts ≡ b → (rest : List Token) → choose test f g ts ≡ reading.deep rest → Deep (Either L M) most ts rest
   choose_deep true ts is rest h =
       let x = F.deep ts rest (sym (choose_if test f g true ts is) ∙ h) in
-      record { tree = x.tree; pieces = x.pieces; piece = x.piece; missing = x.missing; front = x.front; token = x.token; behind = x.behind; spelled = this x.spelled; fits = x.fits; takes = x.takes; shallow = x.shallow; deep = x.deep; first = x.first; whole = x.whole }
+      record { tree = x.tree; pieces = x.pieces; piece = x.piece; missing = x.missing; front = x.front; token = x.token; following = x.following; spelled = this x.spelled; fits = x.fits; takes = x.takes; shallow = x.shallow; deep = x.deep; first = x.first; whole = x.whole }
   choose_deep false ts is rest h =
       let x = G.deep ts rest (sym (choose_if test f g false ts is) ∙ h) in
-      record { tree = x.tree; pieces = x.pieces; piece = x.piece; missing = x.missing; front = x.front; token = x.token; behind = x.behind; spelled = that x.spelled; fits = x.fits; takes = x.takes; shallow = x.shallow; deep = x.deep; first = x.first; whole = x.whole }
+      record { tree = x.tree; pieces = x.pieces; piece = x.piece; missing = x.missing; front = x.front; token = x.token; following = x.following; spelled = that x.spelled; fits = x.fits; takes = x.takes; shallow = x.shallow; deep = x.deep; first = x.first; whole = x.whole }
 
   found_true : (tree : A) (ps : List Piece) (front rest : List Token) → choose test f g (front ++ rest) ≡ f (front ++ rest) → Found f most tree ps front rest → Found (choose test f g) most tree ps front rest
-  found_true tree ps front rest e (inl h) = inl (e ∙ h)
-  found_true tree ps front rest e (inr h) = inr ((h.0.0, e ∙ h.0.1), h.1)
+  found_true tree ps front rest e (inl h) = inl (e ∙ h.0, h.1)
+  found_true tree ps front rest e (inr h) = inr (record { left = h.left; is = e ∙ h.is; place = h.place })
 
   found_false : (tree : A) (ps : List Piece) (front rest : List Token) → choose test f g (front ++ rest) ≡ g (front ++ rest) → Found g most tree ps front rest → Found (choose test f g) most tree ps front rest
-  found_false tree ps front rest e (inl h) = inl (e ∙ h)
-  found_false tree ps front rest e (inr h) = inr ((h.0.0, e ∙ h.0.1), h.1)
+  found_false tree ps front rest e (inl h) = inl (e ∙ h.0, h.1)
+  found_false tree ps front rest e (inr h) = inr (record { left = h.left; is = e ∙ h.is; place = h.place })
 
   choose_all : ((a : A) (ps : List Piece) (front rest : List Token) → L a ps → Fits ps front → Stops rest → FirstIs test true (front ++ rest))
       → ((a : A) (ps : List Piece) (front rest : List Token) → M a ps → Fits ps front → Stops rest → FirstIs test false (front ++ rest))
@@ -96,7 +96,7 @@ module _ {A : Type 0} (L M : Language A) (most size : ℕ) (Stops : List Token �
   choose_local_deep false front w r others is h =
       choose_if test f g false (front ++ w ∷ others) (sym (first_through test f g front w r others) ∙ is) ∙ G.local_deep front w r others (sym (choose_if test f g false (front ++ w ∷ r) is) ∙ h)
 
-  -- a reader of two languages whose trees can be told by their first token, which may be the one behind the tree
+  -- a reader of two languages whose trees can be told by their first token, which may be the one after the tree
   pub choose_reads : ((a : A) (ps : List Piece) (front rest : List Token) → L a ps → Fits ps front → Stops rest → FirstIs test true (front ++ rest))
       → ((a : A) (ps : List Piece) (front rest : List Token) → M a ps → Fits ps front → Stops rest → FirstIs test false (front ++ rest))
       → Reads (Either L M) most size Stops (choose test f g)

@@ -1,4 +1,4 @@
--- Two ways to part a list at a token, and tokens with an end behind them.
+-- Two ways to part a list at a token, and tokens with an end after them.
 use Rattle.std.proofs.Common.{◌≡◌, ◌<◌, ℕ, zero, suc, ◌-◌, true, List, [], ◌∷◌, ◌++◌, length, take, drop, refl, sym, ap, ◌∙◌, arith}
 use Rattle.std.proofs.Math.Seq.{take-append_seam, drop-append_seam}
 use Rattle.std.proofs.lemmas.List.{length-append}
@@ -39,20 +39,20 @@ parting (a ∷ xs) (b ∷ ys) x y more rest h =
 
 -- ---- parts by their lengths
 
--- the front of a list and the rest, by how much is behind the front
+-- the front of a list and the rest, by how much is after the front
 pub front_is : (ts front rest : List Token) → ts ≡ front ++ rest → take (length ts - length rest) ts ≡ front
 front_is ts front rest whole =
     let short : length ts - length rest ≡ length front = omega (arith, ap length whole, length-append front rest) in
     ap (λ n. take n ts) short ∙ ap (λ u. take (length front) u) whole ∙ take-append_seam front rest
 
-pub behind_is : (ts front rest : List Token) → ts ≡ front ++ rest → drop (length ts - length rest) ts ≡ rest
-behind_is ts front rest whole =
+pub following_is : (ts front rest : List Token) → ts ≡ front ++ rest → drop (length ts - length rest) ts ≡ rest
+following_is ts front rest whole =
     let short : length ts - length rest ≡ length front = omega (arith, ap length whole, length-append front rest) in
     ap (λ n. drop n ts) short ∙ ap (λ u. drop (length front) u) whole ∙ drop-append_seam front rest
 
--- ---- tokens with an end behind them
+-- ---- tokens with an end after them
 
--- the front of a closed list, and an end behind it
+-- the front of a closed list, and an end after it
 pub front_closed : (xs : List Token) (w : Token) (ys : List Token) → is_closed (xs ++ w ∷ ys) ≡ true → is_closed (xs ++ end_token ∷ []) ≡ true
 front_closed [] w ys closed = refl
 front_closed (x ∷ []) w ys closed = and_both (is_inner x) true (and_left (is_inner x) (is_closed (w ∷ ys)) closed) refl

@@ -62,7 +62,7 @@ module _ {A : Type 0} (test : Token → Bool) (read : Reader A) where
   turns : (size turn : ℕ) → turn < size → size - turn ≡ suc (size - (turn + 1))
   turns size turn h = omega arith
 
-  -- the same where something comes behind the list
+  -- the same where something comes after the list
   pub turn_in : {B : Type 0} (f : Answer (List A) → Answer B) (whole : Answer B) (size turn : ℕ) (found found' : List A) (l mid : List Token) (a : A) → whole ≡ f (gathered found (many (size - turn) test read l)) → turn < size → sees test l ≡ true → read l ≡ good a mid → found' ≡ found ++ a ∷ [] → whole ≡ f (gathered found' (many (size - (turn + 1)) test read mid))
   turn_in f whole size turn found found' l mid a e lt h g p =
       e ∙ ap (λ n. f (gathered found (many n test read l))) (turns size turn lt) ∙ ap f (many_more (size - (turn + 1)) found l a mid h g) ∙ ap (λ fs. f (gathered fs (many (size - (turn + 1)) test read mid))) (sym p)

@@ -1,11 +1,12 @@
 -- Readers of no token and of one, readers by the first token, and the same language in other words.
-use Rattle.std.proofs.Common.{◌≡◌, ◌≤◌, inl, inr, ℕ, List, [], ◌∷◌, ◌++◌, length, refl, sym, ap, ◌∙◌, arith}
+use Rattle.std.proofs.Common.{◌≡◌, ◌≤◌, inl, inr, ℕ, List, [], ◌∷◌, ◌++◌, length, refl, sym, ap, ◌∙◌, subst, arith}
 use Rattle.std.proofs.lemmas.List.{append_cancel_right}
 use Rattle.c_tree.specs.Pieces.{Piece, Fits}
 use Rattle.c_tree.specs.declared.token.Token.{Token}
+use Rattle.c_reader.specs.Depths.{AreWithin}
 use Rattle.c_reader.specs.Reading.{Answer, Reader, ◌>>=◌, after, give, take_as, taken, choose}
 use Rattle.c_reader.specs.Reading as reading
-use Rattle.c_reader.proofs.Reader.{Language, Shallow, Found, Reads}
+use Rattle.c_reader.proofs.Reader.{Language, Found, Reads}
 
 -- this tree alone, without a piece
 pub record Given {A : Type 0} (value : A) (tree : A) (pieces : List Piece) : Type 0 where
@@ -16,13 +17,13 @@ no_front : (front : List Token) (w : Token) (r : List Token) → front ++ w ∷ 
 no_front front w r h = append_cancel_right front [] (w ∷ r) h
 
 given_all : {A : Type 0} (value : A) (most : ℕ) (tree : A) (ps : List Piece) (front rest : List Token) → Given value tree ps → Fits ps front → Found (give value) most tree ps front rest
-unfolding Fits
-given_all value most tree ps [] rest is fits = inl (ap (λ u. reading.good u rest) (sym is.tree_is))
+unfolding Fits AreWithin
+given_all value most tree ps [] rest is fits = inl (ap (λ u. reading.good u rest) (sym is.tree_is), subst (AreWithin most) (sym is.none) tt)
 given_all value most tree [] (x ∷ xs) rest is fits = absurd fits
 given_all value most tree (p ∷ ps) (x ∷ xs) rest is fits = absurd (cc)
 
 pub give_reads : {A : Type 0} (value : A) (most size : ℕ) (Stops : List Token → Type 0) → Reads (Given value) most size Stops (give value)
-unfolding Fits Shallow
+unfolding Fits AreWithin
 give_reads value most size Stops = record {
   good = λ ts tree rest h. record { pieces = []; front = []; spelled = record { tree_is = cc; none = refl }; fits = tt; shallow = tt; whole = cc };
   bad = λ ts rest h. absurd (cc);
@@ -53,7 +54,7 @@ pub reads_as : {A : Type 0} {L M : Language A} {most size : ℕ} {Stops : List T
 reads_as to from R = record {
   good = λ ts tree rest h. let x = R.good ts tree rest h in record { pieces = x.pieces; front = x.front; spelled = to tree x.pieces x.spelled; fits = x.fits; shallow = x.shallow; whole = x.whole };
   bad = λ ts rest h. let x = R.bad ts rest h in record { tree = x.tree; pieces = x.pieces; missing = x.missing; front = x.front; spelled = to x.tree (x.pieces ++ x.missing) x.spelled; fits = x.fits; shallow = x.shallow; whole = x.whole };
-  deep = λ ts rest h. let x = R.deep ts rest h in record { tree = x.tree; pieces = x.pieces; piece = x.piece; missing = x.missing; front = x.front; token = x.token; behind = x.behind; spelled = to x.tree (x.pieces ++ x.piece ∷ x.missing) x.spelled; fits = x.fits; takes = x.takes; shallow = x.shallow; deep = x.deep; first = x.first; whole = x.whole };
+  deep = λ ts rest h. let x = R.deep ts rest h in record { tree = x.tree; pieces = x.pieces; piece = x.piece; missing = x.missing; front = x.front; token = x.token; following = x.following; spelled = to x.tree (x.pieces ++ x.piece ∷ x.missing) x.spelled; fits = x.fits; takes = x.takes; shallow = x.shallow; deep = x.deep; first = x.first; whole = x.whole };
   all = λ tree ps front rest is fits stop small. R.all tree ps front rest (from tree ps is) fits stop small;
   local_good = R.local_good;
   local_bad = R.local_bad;
@@ -66,7 +67,7 @@ pub reads_within : {A : Type 0} {L M : Language A} {most size : ℕ} {Stops : Li
 reads_within {size = size} to from R = record {
   good = λ ts tree rest h. let x = R.good ts tree rest h in record { pieces = x.pieces; front = x.front; spelled = to tree x.pieces x.spelled; fits = x.fits; shallow = x.shallow; whole = x.whole };
   bad = λ ts rest h. let x = R.bad ts rest h in record { tree = x.tree; pieces = x.pieces; missing = x.missing; front = x.front; spelled = to x.tree (x.pieces ++ x.missing) x.spelled; fits = x.fits; shallow = x.shallow; whole = x.whole };
-  deep = λ ts rest h. let x = R.deep ts rest h in record { tree = x.tree; pieces = x.pieces; piece = x.piece; missing = x.missing; front = x.front; token = x.token; behind = x.behind; spelled = to x.tree (x.pieces ++ x.piece ∷ x.missing) x.spelled; fits = x.fits; takes = x.takes; shallow = x.shallow; deep = x.deep; first = x.first; whole = x.whole };
+  deep = λ ts rest h. let x = R.deep ts rest h in record { tree = x.tree; pieces = x.pieces; piece = x.piece; missing = x.missing; front = x.front; token = x.token; following = x.following; spelled = to x.tree (x.pieces ++ x.piece ∷ x.missing) x.spelled; fits = x.fits; takes = x.takes; shallow = x.shallow; deep = x.deep; first = x.first; whole = x.whole };
   all = λ tree ps front rest is fits stop small. R.all tree ps front rest (from tree ps is (omega (arith, fits_length ps front fits, longer front rest, small))) fits stop small;
   local_good = R.local_good;
   local_bad = R.local_bad;
@@ -87,8 +88,8 @@ reads_where less R = record {
 }
 
 same_found : {A : Type 0} (most : ℕ) (read other : Reader A) (tree : A) (ps : List Piece) (front rest : List Token) → read (front ++ rest) ≡ other (front ++ rest) → Found read most tree ps front rest → Found other most tree ps front rest
-same_found most read other tree ps front rest same (inl h) = inl (sym same ∙ h)
-same_found most read other tree ps front rest same (inr h) = inr ((h.0.0, sym same ∙ h.0.1), h.1)
+same_found most read other tree ps front rest same (inl h) = inl (sym same ∙ h.0, h.1)
+same_found most read other tree ps front rest same (inr h) = inr (record { left = h.left; is = sym same ∙ h.is; place = h.place })
 
 -- readers that answer alike
 pub reads_same : {A : Type 0} {L : Language A} {most size : ℕ} {Stops : List Token → Type 0} {read : Reader A} (other : Reader A) → ((ts : List Token) → read ts ≡ other ts) → Reads L most size Stops read → Reads L most size Stops other

@@ -16,6 +16,7 @@ pub mod Listing
 -- what an answer says of the trees that begin with some tokens
 pub mod Shrinking
 pub mod Probing
+pub mod Nesting
 -- what functions return that read
 pub mod Tokening
 pub mod Failing

@@ -54,17 +54,17 @@ module _ {A : Type 0} (ok : A → Bool) (f : A → ℕ → List Piece) (n : ℕ)
   abbrev pub SeparatedOf : List ℕ → Language (List A)
   SeparatedOf text = Of (λ trees. has_some trees && list_all ok trees) (λ trees. separated text (map f trees) n)
 
-  abbrev Behind : List ℕ → Language A
-  Behind text = Both (Single (spelt Mark text n)) (λ u. Of ok (λ a. f a n))
+  abbrev Followed : List ℕ → Language A
+  Followed text = Both (Single (spelt Mark text n)) (λ u. Of ok (λ a. f a n))
 
   abbrev FirstAndRest : List ℕ → Language (List A)
-  FirstAndRest text = Both (Of ok (λ a. f a n)) (λ first. Both (Several (Behind text)) (λ rest. Given (first ∷ rest)))
+  FirstAndRest text = Both (Of ok (λ a. f a n)) (λ first. Both (Several (Followed text)) (λ rest. Given (first ∷ rest)))
 
   unfoldable pub separated_rest : List ℕ → List A → List Piece
   separated_rest text [] = []
   separated_rest text (a ∷ trees) = (spelt Mark text n tt ∷ []) ++ (f a n ++ separated_rest text trees)
 
-  rest_to : (text : List ℕ) (trees : List A) (ps : List Piece) → Several (Behind text) trees ps → (list_all ok trees ≡ true) × (ps ≡ separated_rest text trees)
+  rest_to : (text : List ℕ) (trees : List A) (ps : List Piece) → Several (Followed text) trees ps → (list_all ok trees ≡ true) × (ps ≡ separated_rest text trees)
   unfolding Several separated_rest
   rest_to text [] ps is = (refl, is)
   rest_to text (a ∷ trees) ps is =
@@ -74,7 +74,7 @@ module _ {A : Type 0} (ok : A → Bool) (f : A → ℕ → List Piece) (n : ℕ)
         onto is.1.1.2 (onto b.whole b.left.one b.right.wants) rest.1 ∙ append_assoc (spelt Mark text n tt ∷ []) (f a n) (separated_rest text trees),
       )
 
-  rest_from : (text : List ℕ) (trees : List A) → list_all ok trees ≡ true → Several (Behind text) trees (separated_rest text trees)
+  rest_from : (text : List ℕ) (trees : List A) → list_all ok trees ≡ true → Several (Followed text) trees (separated_rest text trees)
   unfolding Several separated_rest
   rest_from text [] all = refl
   rest_from text (a ∷ trees) all = (
@@ -118,15 +118,15 @@ module _ {A : Type 0} (ok : A → Bool) (f : A → ℕ → List Piece) (most siz
     (goes_on : (ts : List Token) → FirstIs (is_mark text) true ts → StopsA ts)
     (ends : (ts : List Token) → Stops ts → StopsA ts)
     (stops : (ts : List Token) → Stops ts → FirstIs (is_mark text) false ts) where
-  mark_begins : Begins (Behind ok f n text) (is_mark text) true
+  mark_begins : Begins (Followed ok f n text) (is_mark text) true
   unfolding IsWanted
   mark_begins = begins_both _ _ (is_mark text) true (begins_single (spelt Mark text n) (is_mark text) true (λ u w takes. spelled_yes Mark text w takes.0.0 takes.0.1))
 
-  behind_reads : Reads (Behind ok f n text) most size StopsA (read_mark text left >>= λ separator. read)
-  behind_reads = bind_reads _ _ most size (λ ts. Unit {0}) StopsA _ _ (spelt_reads most size (λ ts. Unit {0}) Mark text n left level) (λ u. F) (λ u ps is. some) (λ u c qs ys rest is fits stop. tt)
+  following_reads : Reads (Followed ok f n text) most size StopsA (read_mark text left >>= λ separator. read)
+  following_reads = bind_reads _ _ most size (λ ts. Unit {0}) StopsA _ _ (spelt_reads most size (λ ts. Unit {0}) Mark text n left level) (λ u. F) (λ u ps is. some) (λ u c qs ys rest is fits stop. tt)
 
-  behind_some : (a : A) (ps : List Piece) → Behind ok f n text a ps → 0 < length ps
-  behind_some a ps is = omega (arith, ap length is.whole, ap length is.left.one, length-append is.pieces1 is.pieces2)
+  following_some : (a : A) (ps : List Piece) → Followed ok f n text a ps → 0 < length ps
+  following_some a ps is = omega (arith, ap length is.whole, ap length is.left.one, length-append is.pieces1 is.pieces2)
 
   pub separated_reads : Reads (SeparatedOf ok f n text) most size Stops (separated_by size text left read)
   unfolding separated_by
@@ -134,12 +134,12 @@ module _ {A : Type 0} (ok : A → Bool) (f : A → ℕ → List Piece) (most siz
       reads_as (separated_to ok f n text) (separated_from ok f n text)
       (bind_reads _ _ most size StopsA Stops _ _ F
       (λ first. bind_reads _ _ most size Stops Stops _ _
-      (many_reads (Behind ok f n text) most size StopsA Stops (is_mark text) (read_mark text left >>= λ separator. read) behind_reads mark_begins goes_on ends stops behind_some)
+      (many_reads (Followed ok f n text) most size StopsA Stops (is_mark text) (read_mark text left >>= λ separator. read) following_reads mark_begins goes_on ends stops following_some)
       (λ rest. give_reads (first ∷ rest) most size Stops)
       (λ rest ps is. some_given (first ∷ rest))
       (λ rest c qs ys more is fits stop. given_stops (first ∷ rest) c qs ys more Stops is fits stop))
-      (λ first ps is. some_list (Behind ok f n text) (λ rest. first ∷ rest))
-      (λ first c qs ys more is fits stop. several_given_stops (Behind ok f n text) (λ rest. first ∷ rest) (is_mark text) StopsA Stops mark_begins goes_on ends c qs ys more is fits stop))
+      (λ first ps is. some_list (Followed ok f n text) (λ rest. first ∷ rest))
+      (λ first c qs ys more is fits stop. several_given_stops (Followed ok f n text) (λ rest. first ∷ rest) (is_mark text) StopsA Stops mark_begins goes_on ends c qs ys more is fits stop))
 
 -- every tree and all pieces
 abbrev Everything : {A : Type 0} → Language A

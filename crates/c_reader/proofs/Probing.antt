@@ -42,34 +42,34 @@ unfolding StandsAt some_place
 token_stands want None = tt
 token_stands want (Some place) = token_placed want place
 
-tokens_for : (ps : List Piece) → (ts : List Token) × Fits ps ts
+pub tokens_for : (ps : List Piece) → (ts : List Token) × Fits ps ts
 unfolding Fits
 tokens_for [] = ([], tt)
 tokens_for (p ∷ ps) = let rest = tokens_for ps in (token_for p.want (some_place p.place) ∷ rest.0, ((token_wanted p.want (some_place p.place), token_stands p.want p.place), rest.1))
 
 -- ---- parts of lists
 
-same_tail : (x y : Token) (xs ys : List Token) → x ∷ xs ≡ y ∷ ys → xs ≡ ys
+same_tail : {B : Type 0} (x y : B) (xs ys : List B) → x ∷ xs ≡ y ∷ ys → xs ≡ ys
 same_tail x y xs ys h = cc
 
-same_head : (x y : Token) (xs ys : List Token) → x ∷ xs ≡ y ∷ ys → x ≡ y
+pub same_head : {B : Type 0} (x y : B) (xs ys : List B) → x ∷ xs ≡ y ∷ ys → x ≡ y
 same_head x y xs ys h = cc
 
 -- of two ways to part a list, one that is cut later goes on from the other
-longer : (ks ls xs ys : List Token) → xs ++ ys ≡ ks ++ ls → length ks ≤ length xs → (more : List Token) × (xs ≡ ks ++ more)
+pub longer : {B : Type 0} (ks ls xs ys : List B) → xs ++ ys ≡ ks ++ ls → length ks ≤ length xs → (more : List B) × (xs ≡ ks ++ more)
 longer [] ls xs ys h low = (xs, refl)
 longer (k ∷ ks) ls [] ys h low = absurd (omega (arith, low))
 longer (k ∷ ks) ls (x ∷ xs) ys h low =
     let rest = longer ks ls xs ys (same_tail x k (xs ++ ys) (ks ++ ls) h) (omega (arith, low)) in
     (rest.0, ap (λ u. u ∷ xs) (same_head x k (xs ++ ys) (ks ++ ls) h) ∙ ap (λ u. k ∷ u) rest.1)
 
-record Shorter (ks ls xs ys : List Token) : Type 0 where
-  pub next : Token
-  pub more : List Token
+pub record Shorter {B : Type 0} (ks ls xs ys : List B) : Type 0 where
+  pub next : B
+  pub more : List B
   pub ks_is : ks ≡ xs ++ next ∷ more
   pub ys_is : ys ≡ next ∷ (more ++ ls)
 
-shorter_ : (ks ls xs ys : List Token) → xs ++ ys ≡ ks ++ ls → length xs < length ks → Shorter ks ls xs ys
+pub shorter_ : {B : Type 0} (ks ls xs ys : List B) → xs ++ ys ≡ ks ++ ls → length xs < length ks → Shorter ks ls xs ys
 shorter_ [] ls xs ys h less = absurd (omega (arith, less))
 shorter_ (k ∷ ks) ls [] ys h less = record { next = k; more = ks; ks_is = refl; ys_is = h }
 shorter_ (k ∷ ks) ls (x ∷ xs) ys h less =
@@ -124,8 +124,8 @@ module _ {A : Type 0} (L : Language A) where
   fault_or_good answer xs ys a left right = cc
 
   not_found : (most : ℕ) (read : Reader A) (ts rest : List Token) (a : A) (ps : List Piece) (front stop : List Token) → read ts ≡ reading.bad rest → ts ≡ front ++ stop → Found read most a ps front stop → ⊥
-  not_found most read ts rest a ps front stop h is (inl found) = fault_or_good (read ts) rest stop a h (ap read is ∙ found)
-  not_found most read ts rest a ps front stop h is (inr found) = fault_or_deep (read ts) rest found.0.0 h (ap read is ∙ found.0.1)
+  not_found most read ts rest a ps front stop h is (inl found) = fault_or_good (read ts) rest stop a h (ap read is ∙ found.0)
+  not_found most read ts rest a ps front stop h is (inr found) = fault_or_deep (read ts) rest found.left h (ap read is ∙ found.is)
 
   two_goods : (answer : Answer A) (xs ys : List Token) (a b : A) → answer ≡ reading.good a xs → answer ≡ reading.good b ys → xs ≡ ys
   two_goods answer xs ys a b left right = cc
@@ -135,41 +135,41 @@ module _ {A : Type 0} (L : Language A) where
 
   -- a tree that is read stops where it does
   not_longer : (most : ℕ) (read : Reader A) (ts rest : List Token) (a b : A) (ps : List Piece) (front stop : List Token) → read ts ≡ reading.good a rest → ts ≡ front ++ stop → length stop < length rest → Found read most b ps front stop → ⊥
-  not_longer most read ts rest a b ps front stop h is less (inl found) = omega (arith, less, ap length (two_goods (read ts) rest stop a b h (ap read is ∙ found)))
-  not_longer most read ts rest a b ps front stop h is less (inr found) = good_or_deep (read ts) rest found.0.0 a h (ap read is ∙ found.0.1)
+  not_longer most read ts rest a b ps front stop h is less (inl found) = omega (arith, less, ap length (two_goods (read ts) rest stop a b h (ap read is ∙ found.0)))
+  not_longer most read ts rest a b ps front stop h is less (inr found) = good_or_deep (read ts) rest found.left a h (ap read is ∙ found.is)
 
   module _ (most : ℕ) (Stops : List Token → Type 0) (read : ℕ → Reader A) (R : (size : ℕ) → Reads L most size Stops (read size)) (like : (k s t : ℕ) → k ≤ s → k ≤ t → Like k 0 (read s) (read t)) (stop : List Token) (stops : Stops stop) where
-    none_by : (size : ℕ) (before behind : List Token) (w : Token) (b : BeginsOf L (before ++ w ∷ [])) (more : List Token) → Fits b.missing more → length ((before ++ w ∷ []) ++ more ++ stop) ≤ size → read size (before ++ w ∷ behind) ≡ reading.bad (w ∷ behind) → ⊥
-    none_by size before behind w b more fits small h =
+    none_by : (size : ℕ) (before following : List Token) (w : Token) (b : BeginsOf L (before ++ w ∷ [])) (more : List Token) → Fits b.missing more → length ((before ++ w ∷ []) ++ more ++ stop) ≤ size → read size (before ++ w ∷ following) ≡ reading.bad (w ∷ following) → ⊥
+    none_by size before following w b more fits small h =
         let whole : Fits (b.pieces ++ b.missing) ((before ++ w ∷ []) ++ more) = fits_append b.pieces b.missing (before ++ w ∷ []) more b.fits fits in
         let same : (before ++ w ∷ []) ++ more ++ stop ≡ before ++ w ∷ (more ++ stop) = ap (λ u. u ++ stop) (append_assoc before (w ∷ []) more) ∙ append_assoc before (w ∷ more) stop in
-        not_found most (read size) ((before ++ w ∷ []) ++ more ++ stop) (w ∷ (more ++ stop)) b.tree (b.pieces ++ b.missing) ((before ++ w ∷ []) ++ more) stop (ap (read size) same ∙ (R size).local_bad before w behind (more ++ stop) h) refl
+        not_found most (read size) ((before ++ w ∷ []) ++ more ++ stop) (w ∷ (more ++ stop)) b.tree (b.pieces ++ b.missing) ((before ++ w ∷ []) ++ more) stop (ap (read size) same ∙ (R size).local_bad before w following (more ++ stop) h) refl
         ((R size).all b.tree (b.pieces ++ b.missing) ((before ++ w ∷ []) ++ more) stop b.spelled_ whole stops small)
 
     -- no tree begins with the tokens up to and with the fault: readers of longer lists answer alike
-    pub none_begins : (size : ℕ) (before behind : List Token) (w : Token) → length (before ++ w ∷ behind) ≤ size → read size (before ++ w ∷ behind) ≡ reading.bad (w ∷ behind) → BeginsOf L (before ++ w ∷ []) → ⊥
-    none_begins size before behind w small h b =
+    pub none_begins : (size : ℕ) (before following : List Token) (w : Token) → length (before ++ w ∷ following) ≤ size → read size (before ++ w ∷ following) ≡ reading.bad (w ∷ following) → BeginsOf L (before ++ w ∷ []) → ⊥
+    none_begins size before following w small h b =
         let more = tokens_for b.missing in
         let big = size + length ((before ++ w ∷ []) ++ more.0 ++ stop) in
-        none_by big before behind w b more.0 more.1 (omega arith) (sym ((like size size big (omega arith) (omega arith)).same (before ++ w ∷ behind) small) ∙ h)
+        none_by big before following w b more.0 more.1 (omega arith) (sym ((like size size big (omega arith) (omega arith)).same (before ++ w ∷ following) small) ∙ h)
 
     -- nor with more tokens than a tree that was read, where one begins with them
-    good_by : (size : ℕ) (before behind : List Token) (w : Token) (a : A) (b : BeginsOf L (before ++ w ∷ [])) (more : List Token) → Fits b.missing more → length ((before ++ w ∷ []) ++ more ++ stop) ≤ size → read size (before ++ w ∷ behind) ≡ reading.good a (w ∷ behind) → ⊥
-    good_by size before behind w a b more fits small h =
+    good_by : (size : ℕ) (before following : List Token) (w : Token) (a : A) (b : BeginsOf L (before ++ w ∷ [])) (more : List Token) → Fits b.missing more → length ((before ++ w ∷ []) ++ more ++ stop) ≤ size → read size (before ++ w ∷ following) ≡ reading.good a (w ∷ following) → ⊥
+    good_by size before following w a b more fits small h =
         let whole : Fits (b.pieces ++ b.missing) ((before ++ w ∷ []) ++ more) = fits_append b.pieces b.missing (before ++ w ∷ []) more b.fits fits in
         let same : (before ++ w ∷ []) ++ more ++ stop ≡ before ++ w ∷ (more ++ stop) = ap (λ u. u ++ stop) (append_assoc before (w ∷ []) more) ∙ append_assoc before (w ∷ more) stop in
-        not_longer most (read size) ((before ++ w ∷ []) ++ more ++ stop) (w ∷ (more ++ stop)) a b.tree (b.pieces ++ b.missing) ((before ++ w ∷ []) ++ more) stop (ap (read size) same ∙ (R size).local_good before w behind (more ++ stop) a h) refl (omega (arith, length-append more stop))
+        not_longer most (read size) ((before ++ w ∷ []) ++ more ++ stop) (w ∷ (more ++ stop)) a b.tree (b.pieces ++ b.missing) ((before ++ w ∷ []) ++ more) stop (ap (read size) same ∙ (R size).local_good before w following (more ++ stop) a h) refl (omega (arith, length-append more stop))
         ((R size).all b.tree (b.pieces ++ b.missing) ((before ++ w ∷ []) ++ more) stop b.spelled_ whole stops small)
 
-    pub none_longer : (size : ℕ) (before behind : List Token) (w : Token) (a : A) → length (before ++ w ∷ behind) ≤ size → read size (before ++ w ∷ behind) ≡ reading.good a (w ∷ behind) → BeginsOf L (before ++ w ∷ []) → ⊥
-    none_longer size before behind w a small h b =
+    pub none_longer : (size : ℕ) (before following : List Token) (w : Token) (a : A) → length (before ++ w ∷ following) ≤ size → read size (before ++ w ∷ following) ≡ reading.good a (w ∷ following) → BeginsOf L (before ++ w ∷ []) → ⊥
+    none_longer size before following w a small h b =
         let more = tokens_for b.missing in
         let big = size + length ((before ++ w ∷ []) ++ more.0 ++ stop) in
-        good_by big before behind w a b more.0 more.1 (omega arith) (sym ((like size size big (omega arith) (omega arith)).same (before ++ w ∷ behind) small) ∙ h)
+        good_by big before following w a b more.0 more.1 (omega arith) (sym ((like size size big (omega arith) (omega arith)).same (before ++ w ∷ following) small) ∙ h)
 
     -- ---- what could stand in the place of a fault
 
-    module _ (size : ℕ) (before behind : List Token) (w : Token) (fault : read size (before ++ w ∷ behind) ≡ reading.bad (w ∷ behind)) (v e : Token) where
+    module _ (size : ℕ) (before following : List Token) (w : Token) (fault : read size (before ++ w ∷ following) ≡ reading.bad (w ∷ following)) (v e : Token) where
       abbrev list : List Token
       list = before ++ v ∷ e ∷ []
 
@@ -188,18 +188,18 @@ module _ {A : Type 0} (L : Language A) where
       never_bad xs ys h more bad =
           let s = shorter_ before (v ∷ e ∷ []) xs ys h (omega (arith, more, length-append xs ys, length-append before (v ∷ e ∷ []), ap length h)) in
           let here : read size (xs ++ s.next ∷ (s.more ++ v ∷ e ∷ [])) ≡ reading.bad (s.next ∷ (s.more ++ v ∷ e ∷ [])) = ap (λ u. read size (xs ++ u)) (sym s.ys_is) ∙ ap (read size) h ∙ bad ∙ ap (λ u. reading.bad u) s.ys_is in
-          let there : read size (xs ++ s.next ∷ (s.more ++ w ∷ behind)) ≡ reading.bad (s.next ∷ (s.more ++ w ∷ behind)) = (R size).local_bad xs s.next (s.more ++ v ∷ e ∷ []) (s.more ++ w ∷ behind) here in
-          let same : before ++ w ∷ behind ≡ xs ++ s.next ∷ (s.more ++ w ∷ behind) = ap (λ u. u ++ w ∷ behind) s.ks_is ∙ append_assoc xs (s.next ∷ s.more) (w ∷ behind) in
-          let rests : s.next ∷ (s.more ++ w ∷ behind) ≡ w ∷ behind = one_fault (read size (before ++ w ∷ behind)) (s.next ∷ (s.more ++ w ∷ behind)) (w ∷ behind) (ap (read size) same ∙ there) fault in
-          omega (arith, ap length rests, length-append s.more (w ∷ behind))
+          let there : read size (xs ++ s.next ∷ (s.more ++ w ∷ following)) ≡ reading.bad (s.next ∷ (s.more ++ w ∷ following)) = (R size).local_bad xs s.next (s.more ++ v ∷ e ∷ []) (s.more ++ w ∷ following) here in
+          let same : before ++ w ∷ following ≡ xs ++ s.next ∷ (s.more ++ w ∷ following) = ap (λ u. u ++ w ∷ following) s.ks_is ∙ append_assoc xs (s.next ∷ s.more) (w ∷ following) in
+          let rests : s.next ∷ (s.more ++ w ∷ following) ≡ w ∷ following = one_fault (read size (before ++ w ∷ following)) (s.next ∷ (s.more ++ w ∷ following)) (w ∷ following) (ap (read size) same ∙ there) fault in
+          omega (arith, ap length rests, length-append s.more (w ∷ following))
 
       never_deep : (xs ys : List Token) → xs ++ ys ≡ list → 2 < length ys → read size list ≡ reading.deep ys → ⊥
       never_deep xs ys h more deep =
           let s = shorter_ before (v ∷ e ∷ []) xs ys h (omega (arith, more, length-append xs ys, length-append before (v ∷ e ∷ []), ap length h)) in
           let here : read size (xs ++ s.next ∷ (s.more ++ v ∷ e ∷ [])) ≡ reading.deep (s.next ∷ (s.more ++ v ∷ e ∷ [])) = ap (λ u. read size (xs ++ u)) (sym s.ys_is) ∙ ap (read size) h ∙ deep ∙ ap (λ u. reading.deep u) s.ys_is in
-          let there : read size (xs ++ s.next ∷ (s.more ++ w ∷ behind)) ≡ reading.deep (s.next ∷ (s.more ++ w ∷ behind)) = (R size).local_deep xs s.next (s.more ++ v ∷ e ∷ []) (s.more ++ w ∷ behind) here in
-          let same : before ++ w ∷ behind ≡ xs ++ s.next ∷ (s.more ++ w ∷ behind) = ap (λ u. u ++ w ∷ behind) s.ks_is ∙ append_assoc xs (s.next ∷ s.more) (w ∷ behind) in
-          fault_or_deep (read size (before ++ w ∷ behind)) (w ∷ behind) (s.next ∷ (s.more ++ w ∷ behind)) fault (ap (read size) same ∙ there)
+          let there : read size (xs ++ s.next ∷ (s.more ++ w ∷ following)) ≡ reading.deep (s.next ∷ (s.more ++ w ∷ following)) = (R size).local_deep xs s.next (s.more ++ v ∷ e ∷ []) (s.more ++ w ∷ following) here in
+          let same : before ++ w ∷ following ≡ xs ++ s.next ∷ (s.more ++ w ∷ following) = ap (λ u. u ++ w ∷ following) s.ks_is ∙ append_assoc xs (s.next ∷ s.more) (w ∷ following) in
+          fault_or_deep (read size (before ++ w ∷ following)) (w ∷ following) (s.next ∷ (s.more ++ w ∷ following)) fault (ap (read size) same ∙ there)
 
       bad_at : (rest : List Token) → (length rest < 2) ⊎ (2 < length rest) → read size list ≡ reading.bad rest → Bad L most list rest → BeginsOf L (before ++ v ∷ [])
       bad_at rest (inl less) h b = from_longer b.front rest (sym b.whole) less (record { tree = b.tree; pieces = b.pieces; missing = b.missing; spelled_ = b.spelled; fits = b.fits })
@@ -219,7 +219,7 @@ module _ {A : Type 0} (L : Language A) where
 
       deep_at : (rest : List Token) → (length rest < 3) ⊎ (2 < length rest) → read size list ≡ reading.deep rest → Deep L most list rest → BeginsOf L (before ++ v ∷ [])
       deep_at rest (inl less) h d =
-          from_longer (d.front ++ d.token ∷ []) d.behind (append_assoc d.front (d.token ∷ []) d.behind ∙ ap (λ u. d.front ++ u) (sym d.first) ∙ sym d.whole) (omega (arith, less, ap length d.first)) (begins_deep rest d)
+          from_longer (d.front ++ d.token ∷ []) d.following (append_assoc d.front (d.token ∷ []) d.following ∙ ap (λ u. d.front ++ u) (sym d.first) ∙ sym d.whole) (omega (arith, less, ap length d.first)) (begins_deep rest d)
       deep_at rest (inr more) h d = absurd (never_deep d.front rest (sym d.whole) more h)
 
       pub can_deep : (rest : List Token) → read size list ≡ reading.deep rest → BeginsOf L (before ++ v ∷ [])

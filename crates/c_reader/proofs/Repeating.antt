@@ -38,8 +38,8 @@ module _ {A : Type 0} (L : Language A) (most size : ℕ) (StopsA Stops : List To
   both_begins : {C : Type 0} {K : A → Language C} (c : C) (ps : List Piece) (front rest : List Token) → Both L K c ps → Fits ps front → FirstIs test true (front ++ rest)
   both_begins c ps front rest both fits =
       let parted = fits_part both.pieces1 both.pieces2 front (subst (λ u. Fits u front) both.whole fits) in
-      subst (λ u. FirstIs test true u) (sym (ap (λ u. u ++ rest) parted.whole ∙ append_assoc parted.front parted.behind rest))
-      (begins both.first both.pieces1 parted.front (parted.behind ++ rest) both.left parted.left)
+      subst (λ u. FirstIs test true u) (sym (ap (λ u. u ++ rest) parted.whole ∙ append_assoc parted.front parted.following rest))
+      (begins both.first both.pieces1 parted.front (parted.following ++ rest) both.left parted.left)
 
   upto_stops_at : (n : ℕ) (trees : List A) (ps : List Piece) (ys rest : List Token) → Either (Both L (λ a. Both (UpTo L n) (λ others. Given (a ∷ others)))) (Given []) trees ps → Fits ps ys → Stops rest → StopsA (ys ++ rest)
   upto_stops_at n trees ps ys rest (this both) fits stop = goes_on (ys ++ rest) (both_begins trees ps ys rest both fits)
@@ -111,7 +111,7 @@ module _ {A : Type 0} (L : Language A) (most size : ℕ) (StopsA Stops : List To
   many_reads some =
       reads_within (λ trees ps is. several_of size trees ps is) (λ trees ps is few. upto_of size trees ps is (omega (arith, no_more_trees some trees ps is, few))) (many_upto size)
 
--- what stands behind what precedes a list: a tree of it, or what is behind the list
+-- what stands after what precedes a list: a tree of it, or what is after the list
 pub several_stops : {A : Type 0} (L : Language A) (test : Token → Bool) (StopsA Stops : List Token → Type 0)
     → ((a : A) (ps : List Piece) (front rest : List Token) → L a ps → Fits ps front → FirstIs test true (front ++ rest)) → ((ts : List Token) → FirstIs test true ts → StopsA ts) → ((ts : List Token) → Stops ts → StopsA ts)
     → (trees : List A) (ps : List Piece) (ys rest : List Token) → Several L trees ps → Fits ps ys → Stops rest → StopsA (ys ++ rest)
@@ -121,7 +121,7 @@ several_stops L test StopsA Stops begins goes_on ends [] [] (y ∷ ys) rest is f
 several_stops L test StopsA Stops begins goes_on ends [] (p ∷ ps) (y ∷ ys) rest is fits stop = absurd (cc)
 several_stops L test StopsA Stops begins goes_on ends (a ∷ trees) ps ys rest is fits stop =
     let parted = fits_part is.0 is.1.0 ys (subst (λ u. Fits u ys) is.1.1.2 fits) in
-    goes_on (ys ++ rest) (subst (λ u. FirstIs test true u) (sym (ap (λ u. u ++ rest) parted.whole ∙ append_assoc parted.front parted.behind rest)) (begins a is.0 parted.front (parted.behind ++ rest) is.1.1.0 parted.left))
+    goes_on (ys ++ rest) (subst (λ u. FirstIs test true u) (sym (ap (λ u. u ++ rest) parted.whole ∙ append_assoc parted.front parted.following rest)) (begins a is.0 parted.front (parted.following ++ rest) is.1.1.0 parted.left))
 
 -- the same with what is made of the list
 pub several_given_stops : {A C : Type 0} (L : Language A) (make : List A → C) (test : Token → Bool) (StopsA Stops : List Token → Type 0)

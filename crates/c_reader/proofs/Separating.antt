@@ -13,7 +13,7 @@ use Rattle.c_reader.proofs.Failing.{fails_after, fails_as, gives_fault}
 use Rattle.c_reader.proofs.Gathering.{choose_sees, gathered}
 
 module _ {A : Type 0} (size : ℕ) (text : List ℕ) (left : ℕ) (part : Reader A) where
-  -- a mark and the part behind it
+  -- a mark and the part after it
   abbrev pub next_part : Reader A
   next_part = read_mark text left >>= λ separator. part
 
@@ -47,14 +47,14 @@ more_one found a (bad l) = refl
 more_one found a (deep l) = refl
 
 module _ {A : Type 0} (text : List ℕ) (starts : Token → Bool) (left : ℕ) (read : Reader A) where
-  -- a part and more behind it
+  -- a part and more after it
   abbrev part_and_more : ℕ → Reader (List A × TrailingComma)
   part_and_more n = read >>= λ a. read_more n text starts left read >>= λ rest. give (a ∷ rest.0, rest.1)
 
-  abbrev behind_mark : ℕ → Reader (List A × TrailingComma)
-  behind_mark n = choose starts (part_and_more n) (give ([], Present))
+  abbrev following_mark : ℕ → Reader (List A × TrailingComma)
+  following_mark n = choose starts (part_and_more n) (give ([], Present))
 
-  opened : (n : ℕ) (l : List Token) → sees (is_mark text) l ≡ true → read_more (suc n) text starts left read l ≡ after (read_mark text left l) (λ separator. behind_mark n)
+  opened : (n : ℕ) (l : List Token) → sees (is_mark text) l ≡ true → read_more (suc n) text starts left read l ≡ after (read_mark text left l) (λ separator. following_mark n)
   unfolding read_more
   opened n l h = choose_sees (is_mark text) _ _ l ∙ rw h refl
 
@@ -66,14 +66,14 @@ module _ {A : Type 0} (text : List ℕ) (starts : Token → Bool) (left : ℕ) (
   turn_of : (size turn : ℕ) → turn < size → size - turn ≡ suc (size - (turn + 1))
   turn_of size turn h = omega arith
 
-  opened_whole : (whole : Answer (List A × TrailingComma)) (size turn : ℕ) (found : List A) (l : List Token) → whole ≡ gathered_more found (read_more (size - turn) text starts left read l) → turn < size → sees (is_mark text) l ≡ true → whole ≡ gathered_more found (after (read_mark text left l) (λ separator. behind_mark (size - (turn + 1))))
+  opened_whole : (whole : Answer (List A × TrailingComma)) (size turn : ℕ) (found : List A) (l : List Token) → whole ≡ gathered_more found (read_more (size - turn) text starts left read l) → turn < size → sees (is_mark text) l ≡ true → whole ≡ gathered_more found (after (read_mark text left l) (λ separator. following_mark (size - (turn + 1))))
   opened_whole whole size turn found l is lt h = is ∙ ap (λ n. gathered_more found (read_more n text starts left read l)) (turn_of size turn lt) ∙ ap (gathered_more found) (opened (size - (turn + 1)) l h)
 
-  -- behind a mark
-  marked_whole : (whole : Answer (List A × TrailingComma)) (size turn : ℕ) (found : List A) (l mid : List Token) → whole ≡ gathered_more found (read_more (size - turn) text starts left read l) → turn < size → sees (is_mark text) l ≡ true → read_mark text left l ≡ good (tt {0}) mid → whole ≡ gathered_more found (behind_mark (size - (turn + 1)) mid)
-  marked_whole whole size turn found l mid is lt h m = opened_whole whole size turn found l is lt h ∙ ap (λ r. gathered_more found (after r (λ separator. behind_mark (size - (turn + 1))))) m
+  -- after a mark
+  marked_whole : (whole : Answer (List A × TrailingComma)) (size turn : ℕ) (found : List A) (l mid : List Token) → whole ≡ gathered_more found (read_more (size - turn) text starts left read l) → turn < size → sees (is_mark text) l ≡ true → read_mark text left l ≡ good (tt {0}) mid → whole ≡ gathered_more found (following_mark (size - (turn + 1)) mid)
+  marked_whole whole size turn found l mid is lt h m = opened_whole whole size turn found l is lt h ∙ ap (λ r. gathered_more found (after r (λ separator. following_mark (size - (turn + 1))))) m
 
-  -- in front of a part
+  -- before a part
   part_whole : (whole : Answer (List A × TrailingComma)) (size turn : ℕ) (found : List A) (l mid : List Token) → whole ≡ gathered_more found (read_more (size - turn) text starts left read l) → turn < size → sees (is_mark text) l ≡ true → read_mark text left l ≡ good (tt {0}) mid → sees starts mid ≡ true → whole ≡ gathered_more found (part_and_more (size - (turn + 1)) mid)
   part_whole whole size turn found l mid is lt h m s =
       marked_whole whole size turn found l mid is lt h m ∙ ap (gathered_more found) (choose_sees starts _ _ mid ∙ ap (λ b. if b then part_and_more (size - (turn + 1)) mid else give ([], Present) mid) s)
@@ -89,7 +89,7 @@ module _ {A : Type 0} (text : List ℕ) (starts : Token → Bool) (left : ℕ) (
   more_mark_exit whole size turn found l new r fault is lt h exit f =
       gives_fault whole r fault new exit
       (fails_as whole _ fault new (opened_whole whole size turn found l is lt h)
-      (fails_after _ (λ rest. give (found ++ rest.0, rest.1)) fault new (fails_after (read_mark text left l) (λ separator. behind_mark (size - (turn + 1))) fault new f)))
+      (fails_after _ (λ rest. give (found ++ rest.0, rest.1)) fault new (fails_after (read_mark text left l) (λ separator. following_mark (size - (turn + 1))) fault new f)))
 
   pub more_end : (whole : Answer (List A × TrailingComma)) (size turn : ℕ) (found : List A) (l mid : List Token) → whole ≡ gathered_more found (read_more (size - turn) text starts left read l) → turn < size → sees (is_mark text) l ≡ true → read_mark text left l ≡ good (tt {0}) mid → sees starts mid ≡ false → whole ≡ good (found, Present) mid
   more_end whole size turn found l mid is lt h m s =

@@ -3,10 +3,11 @@ use Rattle.std.proofs.Common.{◌≡◌, inl, inr, ℕ, zero, suc, ◌+◌, Bool
 use Rattle.std.proofs.lemmas.List.{append_cancel_right}
 use Rattle.c_tree.specs.Pieces.{Piece, Takes, Fits}
 use Rattle.c_tree.specs.declared.token.Token.{Token}
+use Rattle.c_reader.specs.Depths.{AreWithin}
 use Rattle.c_reader.specs.Reading.{Answer, Reader, take_as, taken}
 use Rattle.c_reader.specs.Reading as reading
 use Rattle.c_reader.proofs.Giving.{reads_as}
-use Rattle.c_reader.proofs.Reader.{Shallow, Good, Bad, Deep, Found, Reads}
+use Rattle.c_reader.proofs.Reader.{Good, Bad, Deep, Found, Reads}
 
 -- the piece of a value alone
 pub record Single {A : Type 0} (piece : A → Piece) (tree : A) (pieces : List Piece) : Type 0 where
@@ -22,7 +23,7 @@ module _ {A : Type 0} (In : A → Type 0) (test : Token → Bool) (value : Token
     (takes : (w : Token) → test w ≡ true → Takes (piece (value w)) w)
     (within : (w : Token) → test w ≡ true → In (value w)) where
   taken_good : (left : ℕ) → ((a : A) → (piece a).nesting + left ≡ most + 1) → (b : Bool) (w : Token) (r : List Token) → test w ≡ b → (tree : A) (rest : List Token) → taken b (value w) left w r ≡ reading.good tree rest → Good (SingleIn In piece) most (w ∷ r) tree rest
-  unfolding taken Fits Shallow
+  unfolding taken Fits AreWithin
   taken_good left level false w r fit tree rest h = absurd (cc)
   taken_good zero level true w r fit tree rest h = absurd (cc)
   taken_good (suc left) level true w r fit tree rest h =
@@ -43,7 +44,7 @@ module _ {A : Type 0} (In : A → Type 0) (test : Token → Bool) (value : Token
   take_good left level (w ∷ r) tree rest h = taken_good left level (test w) w r refl tree rest h
 
   single_bad : (ts rest : List Token) → ts ≡ rest → Bad (SingleIn In piece) most ts rest
-  unfolding Fits Shallow
+  unfolding Fits AreWithin
   single_bad ts rest h = record { tree = some; pieces = []; missing = piece some ∷ []; front = []; spelled = record { within = some_in; one = refl }; fits = tt; shallow = tt; whole = h }
 
   taken_bad : (left : ℕ) (b : Bool) (w : Token) (r rest : List Token) → taken b (value w) left w r ≡ reading.bad rest → w ∷ r ≡ rest
@@ -58,7 +59,7 @@ module _ {A : Type 0} (In : A → Type 0) (test : Token → Bool) (value : Token
   take_bad left (w ∷ r) rest h = taken_bad left (test w) w r rest h
 
   taken_deep : (left : ℕ) → ((a : A) → (piece a).nesting + left ≡ most + 1) → (b : Bool) (w : Token) (r : List Token) → test w ≡ b → (rest : List Token) → taken b (value w) left w r ≡ reading.deep rest → Deep (SingleIn In piece) most (w ∷ r) rest
-  unfolding taken Fits Shallow
+  unfolding taken Fits AreWithin
   taken_deep left level false w r fit rest h = absurd (cc)
   taken_deep zero level true w r fit rest h =
       let same : w ∷ r ≡ rest = cc in
@@ -69,7 +70,7 @@ module _ {A : Type 0} (In : A → Type 0) (test : Token → Bool) (value : Token
         missing = [];
         front = [];
         token = w;
-        behind = r;
+        following = r;
         spelled = record { within = within w fit; one = refl };
         fits = tt;
         takes = takes w fit;
@@ -86,11 +87,15 @@ module _ {A : Type 0} (In : A → Type 0) (test : Token → Bool) (value : Token
   take_deep left level (w ∷ r) rest h = taken_deep left level (test w) w r refl rest h
 
   taken_found : (left : ℕ) → ((a : A) → (piece a).nesting + left ≡ most + 1) → (tree : A) (w : Token) (rest : List Token) → (test w ≡ true) × (value w ≡ tree) → Found (take_as test value left) most tree (piece tree ∷ []) (w ∷ []) rest
-  unfolding take_as taken Shallow
+  unfolding take_as taken Fits AreWithin
   taken_found zero level tree w rest fit =
-      inr ((w ∷ rest, ap (λ b. taken b (value w) zero w rest) fit.0), λ s. absurd (omega (arith, level tree, s.0)))
+      inr (record {
+        left = w ∷ rest;
+        is = ap (λ b. taken b (value w) zero w rest) fit.0;
+        place = record { before = []; piece = piece tree; missing = []; taken = []; token = w; following = []; parts = refl; fits = tt; shallow = tt; deep = omega (arith, level tree); whole = refl; is_left = refl };
+      })
   taken_found (suc left) level tree w rest fit =
-      inl (ap (λ b. taken b (value w) (suc left) w rest) fit.0 ∙ ap (λ a. reading.good a rest) fit.1)
+      inl (ap (λ b. taken b (value w) (suc left) w rest) fit.0 ∙ ap (λ a. reading.good a rest) fit.1, (omega (arith, level tree), tt))
 
   take_all : (left : ℕ) → ((a : A) → (piece a).nesting + left ≡ most + 1) → (tree : A) (ps : List Piece) (front rest : List Token) → In tree → ps ≡ piece tree ∷ [] → Fits ps front → Found (take_as test value left) most tree ps front rest
   unfolding Fits

@@ -1,4 +1,4 @@
--- What a cursor shows: the tokens that are left of two lists, one behind the other.
+-- What a cursor shows: the tokens that are left of two lists, one after the other.
 use Rattle.std.specs.Prelude.{◌≡◌, ◌<◌, ◌+◌, ◌^◌, true, List, ◌++◌, length, drop}
 use Rattle.c_tree.specs.declared.token.Token.{Token}
 use Rattle.c_tree.specs.TokenLists.{is_closed}

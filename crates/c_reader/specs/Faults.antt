@@ -33,7 +33,7 @@ named_word token = if is_kind Str token then codes "\"" else token.text
 
 -- ---- what stands before
 
--- the token that has so many behind it
+-- the token that has so many after it
 unfoldable pub back : ℕ → List Token → Option Token
 back count tokens = cond (nat_lt count (length tokens)) (slice_get tokens (length tokens - 1 - count)) None
 
@@ -46,7 +46,7 @@ unfoldable pub ends_with_pointer : List Token → Bool
 ends_with_pointer tokens =
     passes (is_kind Name) (back 0 tokens) && (passes (is_mark (codes "*")) (back 1 tokens) || (passes (is_word (codes "const")) (back 1 tokens) && passes (is_mark (codes "*")) (back 2 tokens)))
 
--- behind these a name is a member's or a tag's
+-- after these a name is a member's or a tag's
 unfoldable pub names_other : Token → Bool
 names_other token = is_mark (codes ".") token || is_mark (codes "->") token || is_word (codes "struct") token || is_word (codes "enum") token
 
@@ -77,8 +77,8 @@ is_initialiser_place can = can sample.Number && can sample.Brace && not (can sam
 unfoldable pub is_head_end : (Sample → Bool) → List Token → Bool
 is_head_end can before = passes (is_mark (codes ")")) (back 0 before) && is_balanced before && can sample.Brace
 
--- the faulty token behind these names a construct that is left out: it does so anywhere; or it is a bracket in the place of a
--- declared name or behind a pointer's, a square bracket in the place of an initialiser, or the end of a prototype
+-- the faulty token after these names a construct that is left out: it does so anywhere; or it is a bracket in the place of a
+-- declared name or after a pointer's, a square bracket in the place of an initialiser, or the end of a prototype
 unfoldable pub names_construct : (Sample → Bool) → List Token → Token → Bool
 names_construct can before token =
     if is_left_out token then true else

@@ -13,7 +13,7 @@ separated_by size text left read = do
   rest ← many size (is_mark text) (read_mark text left >>= λ separator. read)
   give (first ∷ rest)
 
--- what follows the first part of a list, which may end with a mark: each mark and the part behind it, as long as one stands there
+-- what follows the first part of a list, which may end with a mark: each mark and the part after it, as long as one stands there
 unfoldable pub read_more : {A : Type 0} → ℕ → List ℕ → (Token → Bool) → ℕ → Reader A → Reader (List A × TrailingComma)
 read_more zero text starts left read = give ([], Absent)
 read_more (suc size) text starts left read =

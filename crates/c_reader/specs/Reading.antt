@@ -1,8 +1,8 @@
--- Readers of tokens: what stands at the front of a list, and the tokens behind it, or the first token that doesn't fit.
+-- Readers of tokens: what stands at the front of a list, and the tokens after it, or the first token that doesn't fit.
 use Rattle.std.specs.Prelude.{ℕ, zero, suc, Bool, true, false, List, [], ◌∷◌, if◌then◌else◌}
 use Rattle.c_tree.specs.declared.token.Token.{Token}
 
--- what was read with the tokens behind it; the tokens from the first that doesn't fit; those from the first that fits and is nested
+-- what was read with the tokens after it; the tokens from the first that doesn't fit; those from the first that fits and is nested
 -- too deeply
 pub data Answer (A : Type 0) : Type 0 where
   good : A → List Token → Answer A

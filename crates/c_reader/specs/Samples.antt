@@ -20,7 +20,7 @@ sample_of sample.Semicolon = token_of Mark (codes ";") 0
 abbrev pub end_token : Token
 end_token = token_of End [] 0
 
--- whether a token with the end behind it is no fault: a fault is at the end, if there is one
+-- whether a token with the end after it is no fault: a fault is at the end, if there is one
 unfoldable pub is_taken : {A : Type 0} → Answer A → Bool
 is_taken (good a rest) = true
 is_taken (bad rest) = not (length rest == 2)

@@ -7,8 +7,8 @@ use crate::unread::Unread;
 use c_tree::Token;
 use std::marker::Model;
 
-/// The tokens that are left of two slices, one behind the other. The second serves to ask what would be read if other
-/// tokens stood behind the first.
+/// The tokens that are left of two slices, one after the other. The second serves to ask what would be read if other
+/// tokens stood after the first.
 #[derive(Drop)]
 pub struct Cursor<'a> {
     tokens: &'a [Token],
@@ -44,7 +44,7 @@ impl<'a> Cursor<'a> {
     }
 
     /// The next token.
-    #[tactic(auto, using(crate::proofs::Advancing::split_behind))]
+    #[tactic(auto, using(crate::proofs::Advancing::split_after))]
     pub fn peek(&self) -> &'a Token
         ensures { self.now ≡ result.now ∷ drop 1 self.now }
     {
@@ -63,7 +63,7 @@ impl<'a> Cursor<'a> {
         self.tokens.len() + self.tail.len() - self.at
     }
 
-    /// Goes on behind the next token, which isn't the end.
+    /// Goes on after the next token, which isn't the end.
     #[tactic(auto, using(crate::proofs::Advancing::goes_on, crate::proofs::Advancing::drop_one))]
     fn advance(&mut self)
         requires { sees is_end self.old ≡ false }

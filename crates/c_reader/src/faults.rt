@@ -97,7 +97,7 @@ fn is_left_out(token: &Token) -> bool
         || left_out_mark(token).is_some()
 }
 
-/// The token that has so many behind it.
+/// The token that has so many after it.
 #[tactic(auto, unfolding(crate::specs::Faults::back))]
 fn back(tokens: &[Token], count: usize) -> Option<&Token>
     ensures { option_map (λ token. token.now) result ≡ spec.back count tokens.now }
@@ -109,7 +109,7 @@ fn back(tokens: &[Token], count: usize) -> Option<&Token>
     }
 }
 
-/// Whether the token that has so many behind it is this mark.
+/// Whether the token that has so many after it is this mark.
 fn is_mark_back(tokens: &[Token], count: usize, text: &str) -> bool
     ensures { result ≡ spec.passes (is_mark_of text.now) (spec.back count tokens.now) }
 {
@@ -135,7 +135,7 @@ fn ends_with_pointer(tokens: &[Token]) -> bool
     names && (is_mark_back(tokens, 1, "*") || (constant && is_mark_back(tokens, 2, "*")))
 }
 
-/// Whether a name behind the token is a member's or a tag's.
+/// Whether a name after the token is a member's or a tag's.
 #[tactic(auto, unfolding(crate::specs::Faults::names_other))]
 fn names_other(token: &Token) -> bool
     ensures { result ≡ spec.names_other token.now }
@@ -146,7 +146,7 @@ fn names_other(token: &Token) -> bool
         || is_word("enum", token)
 }
 
-/// Whether a name behind the tokens is a member's or a tag's.
+/// Whether a name after the tokens is a member's or a tag's.
 fn ends_with_other(tokens: &[Token]) -> bool
     ensures { result ≡ spec.passes spec.names_other (spec.back 0 tokens.now) }
 {
@@ -171,7 +171,7 @@ fn is_balanced(tokens: &[Token]) -> bool
     count_mark(tokens, "{") == count_mark(tokens, "}")
 }
 
-/// Whether a declared name could stand behind the tokens, or a pointer's name ends them.
+/// Whether a declared name could stand after the tokens, or a pointer's name ends them.
 #[tactic(auto, unfolding(crate::specs::Faults::is_name_place))]
 fn is_name_place<F: Fn(Sample) -> Result<bool, Memory>>(
     before: &[Token],
@@ -214,7 +214,7 @@ fn is_head_end<F: Fn(Sample) -> Result<bool, Memory>>(
     }
 }
 
-/// Whether a faulty token behind these names a construct that is left out. `can` tells whether a sample could stand in
+/// Whether a faulty token after these names a construct that is left out. `can` tells whether a sample could stand in
 /// its place; it is asked three times at most.
 #[tactic(auto, unfolding(crate::specs::Faults::names_construct))]
 pub fn names_construct<F: Fn(Sample) -> Result<bool, Memory>>(

@@ -24,8 +24,8 @@ pub fn only<T: Drop>(alloc: Global, item: T) -> Result<Items<T>, Memory>
     Ok(all)
 }
 
-/// What was found, and behind it parts as long as the next token begins one, `size` of them at most.
-pub fn many_behind<T: Drop, G: Fn(&Token) -> bool, R: Fn(&mut Cursor<'_>) -> Result<T, Unread>>(
+/// What was found, and after it parts as long as the next token begins one, `size` of them at most.
+pub fn many_after<T: Drop, G: Fn(&Token) -> bool, R: Fn(&mut Cursor<'_>) -> Result<T, Unread>>(
     cursor: &mut Cursor<'_>,
     size: usize,
     goes_on: G,
@@ -57,10 +57,10 @@ pub fn many<T: Drop, G: Fn(&Token) -> bool, R: Fn(&mut Cursor<'_>) -> Result<T, 
     requires reads { R.IsAlwaysCallable read }
     ensures { (test : Token → Bool) (part : Reader T) → TestsBy test (G.post goes_on) → PartsBy part (R.post read) → Gives (reading.many size test part cursor.old) result cursor.new }
 {
-    many_behind(cursor, size, goes_on, read, Items::new(alloc))
+    many_after(cursor, size, goes_on, read, Items::new(alloc))
 }
 
-/// Parts with a mark between each two of them, one at least and `size` behind it at most.
+/// Parts with a mark between each two of them, one at least and `size` after it at most.
 pub fn separated_by<T: Drop, R: Fn(&mut Cursor<'_>) -> Result<T, Unread>>(
     alloc: Global,
     cursor: &mut Cursor<'_>,
@@ -83,9 +83,9 @@ pub fn separated_by<T: Drop, R: Fn(&mut Cursor<'_>) -> Result<T, Unread>>(
     Ok(found)
 }
 
-/// What was found, and each mark and the part behind it, `size` times at most; and whether the list ends with a mark, as
+/// What was found, and each mark and the part after it, `size` times at most; and whether the list ends with a mark, as
 /// it may.
-pub fn more_behind<T: Drop, G: Fn(&Token) -> bool, R: Fn(&mut Cursor<'_>) -> Result<T, Unread>>(
+pub fn more_after<T: Drop, G: Fn(&Token) -> bool, R: Fn(&mut Cursor<'_>) -> Result<T, Unread>>(
     cursor: &mut Cursor<'_>,
     size: usize,
     left: u32,

@@ -49,7 +49,7 @@ impl Sample {
         }
     }
 
-    /// The token and the end of a text behind it.
+    /// The token and the end of a text after it.
     pub fn with_end(self, alloc: Global) -> Result<[Token; 2], Memory>
         ensures { IfOk result (λ tokens. tokens ≡ spec.sample_of self ∷ spec.end_token ∷ []) }
     {

@@ -9,30 +9,20 @@ use Rattle.c_tree.specs.declared.token.Token.{Token}
 use Rattle.c_tree.specs.declared.token.TokenKind.{TokenKind}
 use Rattle.c_tree.specs.declared.token.TokenKind.TheVariants.{End}
 use Rattle.c_reader.specs.Reading as reading
-use Rattle.c_reader.proofs.Reader.{Shallow, Found, Reads}
-use Rattle.c_reader.proofs.Binding.{fits_part}
-use Rattle.c_expr.proofs.Oneness.{deepest, shallow_more, all_shallow, one_of}
+use Rattle.c_reader.proofs.Reader.{Found, Reads}
+use Rattle.c_reader.proofs.Binding.{fits_part, not_within}
+use Rattle.c_reader.proofs.Nesting.{limit_of, within_more, within_limit, one_of, nested_alike}
 use Rattle.c_reader.proofs.Truths.{not_true, and_left, and_right}
 use Rattle.c_reader.proofs.Probing.{begins_less, none_begins}
 use Rattle.c_reader.proofs.Probing as probing
 use Rattle.c_reader.proofs.Shrinking.{Like}
-use Rattle.c_expr.proofs.Suffixes.{Any}
+use Rattle.c_grammar.proofs.Suffixes.{Any}
 use Rattle.c_syntax.specs.Items.{read_program}
-use Rattle.c_reader.specs.Depths.{most_nesting, AreShallow}
+use Rattle.c_reader.specs.Depths.{most_nesting, AreShallow, AreWithin}
 use Rattle.c_reader.specs.Firsts.{BeginsOf, IsFirstFault, IsFirstDeep}
 use Rattle.c_syntax.specs.Programs.{pieces_of, IsSpelled, ProgramAt}
 use Rattle.c_syntax.proofs.Programming.{program_reads}
 use Rattle.c_syntax.proofs.Sizing.{program_like}
-
-to_shallow : (ps : List Piece) → Shallow most_nesting ps → AreShallow ps
-unfolding Shallow AreShallow
-to_shallow [] s = tt
-to_shallow (p ∷ ps) s = (s.0, to_shallow ps s.1)
-
-from_shallow : (ps : List Piece) → AreShallow ps → Shallow most_nesting ps
-unfolding Shallow AreShallow
-from_shallow [] s = tt
-from_shallow (p ∷ ps) s = (s.0, from_shallow ps s.1)
 
 abbrev pub reads : (size : ℕ) → Reads ProgramAt most_nesting size Any (read_program size 201)
 reads size = program_reads most_nesting size 201 refl
@@ -68,7 +58,7 @@ one_left place text (y ∷ z ∷ ys) fits = absurd fits.1
 ended : (p : ProgramTree) (text : List ℕ) (ts : List Token) → Fits (pieces_of p text) ts → Ended ts
 ended p text ts fits =
     let parted = fits_part (wants_of_program p) _ ts fits in
-    let last = one_left p.end text parted.behind parted.right in
+    let last = one_left p.end text parted.following parted.right in
     record { before = parted.front; end = last.0; is = last.1.1; whole = parted.whole ∙ ap (λ u. parted.front ++ u) last.1.0 }
 
 -- ---- the answers
@@ -77,29 +67,29 @@ module _ (size : ℕ) (ts : List Token) (small : length ts ≤ size) where
   abbrev read : reading.Answer ProgramTree
   read = read_program size 201 ts
 
-  pub first_fault_with : (w : Token) (behind : List Token) → read ≡ reading.bad (w ∷ behind) → (before : List Token) × (IsFirstFault ProgramAt ts before w × (ts ≡ before ++ w ∷ behind))
-  first_fault_with w behind h =
-      let b = (reads size).bad ts (w ∷ behind) h in (
+  pub first_fault_with : (w : Token) (following : List Token) → read ≡ reading.bad (w ∷ following) → (before : List Token) × (IsFirstFault ProgramAt ts before w × (ts ≡ before ++ w ∷ following))
+  first_fault_with w following h =
+      let b = (reads size).bad ts (w ∷ following) h in (
         b.front,
         (
           record {
-            behind = behind;
+            following = following;
             whole = b.whole;
             begins = record { tree = b.tree; pieces = b.pieces; missing = b.missing; spelled_ = b.spelled; fits = b.fits };
-            shallow = to_shallow b.pieces b.shallow;
-            none = λ more. none_begins ProgramAt most_nesting Any (λ k. read_program k 201) reads like [] tt size b.front behind w (subst (λ u. length u ≤ size) b.whole small) (ap (read_program size 201) (sym b.whole) ∙ h) more;
+            shallow = b.shallow;
+            none = λ more. none_begins ProgramAt most_nesting Any (λ k. read_program k 201) reads like [] tt size b.front following w (subst (λ u. length u ≤ size) b.whole small) (ap (read_program size 201) (sym b.whole) ∙ h) more;
           },
           b.whole,
         ),
       )
 
-  pub first_deep : (w : Token) (behind : List Token) → read ≡ reading.deep (w ∷ behind) → (before : List Token) × IsFirstDeep ProgramAt ts before w
-  first_deep w behind h =
-      let d = (reads size).deep ts (w ∷ behind) h in
+  pub first_deep : (w : Token) (following : List Token) → read ≡ reading.deep (w ∷ following) → (before : List Token) × IsFirstDeep ProgramAt ts before w
+  first_deep w following h =
+      let d = (reads size).deep ts (w ∷ following) h in
       let same : d.token ≡ w = cc in (
         d.front,
         record {
-          behind = behind;
+          following = following;
           whole = d.whole;
           tree = d.tree;
           pieces = d.pieces;
@@ -108,7 +98,7 @@ module _ (size : ℕ) (ts : List Token) (small : length ts ≤ size) where
           spelled_ = d.spelled;
           fits = d.fits;
           takes = subst (λ u. Takes d.piece u) same d.takes;
-          shallow = to_shallow d.pieces d.shallow;
+          shallow = d.shallow;
           deep = d.deep;
         },
       )
@@ -122,33 +112,38 @@ module _ (size : ℕ) (ts : List Token) (small : length ts ≤ size) where
       let whole : ts ≡ e.before ++ e.end ∷ rest = g.whole ∙ ap (λ u. u ++ rest) e.whole ∙ append_assoc e.before (e.end ∷ []) rest in
       let none : rest ≡ [] = end_last e.before e.end rest (subst (λ u. is_closed u ≡ true) whole closed) e.is in
       let all : ts ≡ g.front = g.whole ∙ ap (λ u. g.front ++ u) none ∙ append-nil g.front in
-      (none, (record { grammar = g.spelled.grammar; ending = g.spelled.ending; fits = subst (λ u. Fits (pieces_of p g.spelled.ending) u) (sym all) of_p }, to_shallow (pieces_of p g.spelled.ending) (subst (λ u. Shallow most_nesting u) g.spelled.wants g.shallow)))
+      (none, (record { grammar = g.spelled.grammar; ending = g.spelled.ending; fits = subst (λ u. Fits (pieces_of p g.spelled.ending) u) (sym all) of_p }, subst (λ u. AreWithin most_nesting u) g.spelled.wants g.shallow))
 
-  found_whole : (p : ProgramTree) (ps : List Piece) → Shallow most_nesting ps → Found (read_program size 201) most_nesting p ps ts [] → read ≡ reading.good p []
-  found_whole p ps s (inl h) = ap (read_program size 201) (sym (append-nil ts)) ∙ h
-  found_whole p ps s (inr h) = absurd (h.1 s)
+  found_whole : (p : ProgramTree) (ps : List Piece) → AreWithin most_nesting ps → Found (read_program size 201) most_nesting p ps ts [] → read ≡ reading.good p []
+  found_whole p ps s (inl h) = ap (read_program size 201) (sym (append-nil ts)) ∙ h.0
+  found_whole p ps s (inr h) = absurd (not_within most_nesting ps ts [] h.left h.place s)
 
   -- what is spelled is read, unless it is nested too deeply
   pub spelled_read : (p : ProgramTree) (s : IsSpelled ts p) → AreShallow (pieces_of p s.ending) → read ≡ reading.good p []
   spelled_read p s shallow =
-      found_whole p (pieces_of p s.ending) (from_shallow (pieces_of p s.ending) shallow)
+      found_whole p (pieces_of p s.ending) shallow
       ((reads size).all p (pieces_of p s.ending) ts [] (record { grammar = s.grammar; ending = s.ending; wants = refl }) s.fits tt (subst (λ u. length u ≤ size) (sym (append-nil ts)) small))
 
 -- ---- a list of tokens spells one program at most
 
 pub one_program : (a b : ProgramTree) (ts : List Token) → IsSpelled ts a → IsSpelled ts b → a ≡ b
 one_program a b ts left right =
-    let d = deepest (pieces_of a left.ending) in
-    let e = deepest (pieces_of b right.ending) in
+    let d = limit_of (pieces_of a left.ending) in
+    let e = limit_of (pieces_of b right.ending) in
     let most = d + e in
-    one_of (program_reads most (length (ts ++ [])) (suc most) (omega arith)) tt a b (pieces_of a left.ending) (pieces_of b right.ending) ts
+    one_of (program_reads most (length (ts ++ [])) (suc most) (omega arith)) [] tt a b (pieces_of a left.ending) (pieces_of b right.ending) ts
     (record { grammar = left.grammar; ending = left.ending; wants = refl }) (record { grammar = right.grammar; ending = right.ending; wants = refl }) left.fits right.fits
-    (shallow_more d most (omega arith) (pieces_of a left.ending) (all_shallow (pieces_of a left.ending))) (shallow_more e most (omega arith) (pieces_of b right.ending) (all_shallow (pieces_of b right.ending))) (omega arith)
+    (within_more d most (omega arith) (pieces_of a left.ending) (within_limit (pieces_of a left.ending))) (within_more e most (omega arith) (pieces_of b right.ending) (within_limit (pieces_of b right.ending))) (omega arith)
+
+-- ---- programs that begin with the same tokens nest these alike
+
+pub programs_alike : (most : ℕ) (tokens : List Token) (a b : BeginsOf ProgramAt tokens) → AreWithin most a.pieces → AreWithin most b.pieces
+programs_alike most tokens a b s = nested_alike ProgramAt most Any (λ size. read_program size (suc most)) (λ size. program_reads most size (suc most) (omega arith)) [] tt tokens a b s
 
 -- ---- what could stand in the place of a fault
 
--- a fault behind some tokens, and another token and an end behind them
-module _ (size : ℕ) (before behind : List Token) (w : Token) (fault : read_program size 201 (before ++ w ∷ behind) ≡ reading.bad (w ∷ behind)) (v e : Token) where
+-- a fault after some tokens, and another token and an end after them
+module _ (size : ℕ) (before following : List Token) (w : Token) (fault : read_program size 201 (before ++ w ∷ following) ≡ reading.bad (w ∷ following)) (v e : Token) where
   abbrev list : List Token
   list = before ++ v ∷ e ∷ []
 
@@ -163,7 +158,7 @@ module _ (size : ℕ) (before behind : List Token) (w : Token) (fault : read_pro
       (record { tree = p; pieces = pieces_of p s.ending; missing = []; spelled_ = record { grammar = s.grammar; ending = s.ending; wants = append-nil (pieces_of p s.ending) }; fits = all }))
 
   pub can_bad : (rest : List Token) → (length rest ≡ 2 → ⊥) → read_program size 201 list ≡ reading.bad rest → BeginsOf ProgramAt (before ++ v ∷ [])
-  can_bad rest differs h = (probing.can_bad ProgramAt most_nesting Any (λ k. read_program k 201) reads like [] tt size before behind w fault v e rest differs h)
+  can_bad rest differs h = (probing.can_bad ProgramAt most_nesting Any (λ k. read_program k 201) reads like [] tt size before following w fault v e rest differs h)
 
   pub can_deep : (rest : List Token) → read_program size 201 list ≡ reading.deep rest → BeginsOf ProgramAt (before ++ v ∷ [])
-  can_deep rest h = (probing.can_deep ProgramAt most_nesting Any (λ k. read_program k 201) reads like [] tt size before behind w fault v e rest h)
+  can_deep rest h = (probing.can_deep ProgramAt most_nesting Any (λ k. read_program k 201) reads like [] tt size before following w fault v e rest h)

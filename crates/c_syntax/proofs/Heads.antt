@@ -20,8 +20,8 @@ use Rattle.c_tree.specs.declared.programs.ExternalDeclaration.{ExternalDeclarati
 use Rattle.c_tree.specs.declared.programs.ExternalDeclaration.TheVariants as item
 use Rattle.c_reader.specs.Reading.{Reader, ◌>>=◌, give, choose}
 use Rattle.c_reader.specs.Tokens.{is_word, spelled_by, found_by, found_in, read_name}
-use Rattle.c_expr.specs.Tokens.{type_goes_on, type_goes_by}
-use Rattle.c_expr.specs.Levels.{readers_at}
+use Rattle.c_grammar.specs.Tokens.{type_goes_on, type_goes_by}
+use Rattle.c_grammar.specs.Levels.{readers_at}
 use Rattle.c_reader.proofs.Reader.{Language, Of, Reads}
 use Rattle.c_reader.proofs.Binding.{Both}
 use Rattle.c_reader.proofs.Giving.{Given, reads_as}
@@ -31,21 +31,21 @@ use Rattle.c_reader.proofs.Repeating.{Several, many_reads, given_stops}
 use Rattle.c_reader.proofs.Beginning.{Begins, begins_single}
 use Rattle.c_reader.proofs.Joining.{in_both, in_single, in_given, onto}
 use Rattle.c_reader.proofs.Spelt.{spelled_yes, spelt, spelt_at, spelt_at_reads, named, named_reads}
-use Rattle.c_expr.proofs.Suffixes.{SpecsAt, StopsType, Any, no_name}
-use Rattle.c_expr.proofs.Members.{some_specs}
-use Rattle.c_expr.proofs.Levels.{all_read}
+use Rattle.c_grammar.proofs.Suffixes.{SpecsAt, StopsType, Any, no_name}
+use Rattle.c_grammar.proofs.Members.{some_specs}
+use Rattle.c_grammar.proofs.Levels.{all_read}
 use Rattle.c_reader.proofs.Truths.{and_left, and_right, and_both}
 use Rattle.c_decl.specs.Parameters.{read_parameters}
 use Rattle.c_decl.proofs.Declaring.{name_begins}
 use Rattle.c_decl.proofs.Parameters.{ParametersAt, StopsParameters, parameters_reads, some_parameters}
-use Rattle.c_syntax.specs.Levels.{read_block}
-use Rattle.c_syntax.specs.Items.{read_function_behind, read_function_of, read_inline, read_inlines, read_fixed}
-use Rattle.c_syntax.proofs.Blocking.{BlockAt}
-use Rattle.c_syntax.proofs.ByTree.{by_reads, by_as, choose_by}
+use Rattle.c_statement.specs.Levels.{read_block}
+use Rattle.c_syntax.specs.Items.{read_function_after, read_head, read_function_of, read_inline, read_inlines, read_fixed}
+use Rattle.c_statement.proofs.Blocking.{BlockAt}
+use Rattle.c_statement.proofs.ByTree.{by_reads, by_as, choose_by}
 use Rattle.c_syntax.proofs.Optionals.{Opens, opens_none, opens_spelled}
-use Rattle.c_syntax.proofs.Singles.{Always}
-use Rattle.c_syntax.proofs.Stating.{block_reads}
-use Rattle.c_syntax.proofs.Steps.{Step, Anything, then_, given, spelt_then, placed_then, begins_is, begins_is_at}
+use Rattle.c_statement.proofs.Singles.{Always}
+use Rattle.c_statement.proofs.Stating.{block_reads}
+use Rattle.c_statement.proofs.Steps.{Step, Anything, then_, given, spelt_then, placed_then, begins_is, begins_is_at}
 
 -- ---- inline, so many times, and static
 
@@ -135,7 +135,7 @@ module _ (most size n left : ℕ) (level : n + left ≡ most + 1) where
     some = (None, ([], record { wants = refl }));
   }
 
-  -- ---- a function behind its words
+  -- ---- a function after its words
 
   pub name_then : {C : Type 0} (StopsC : C → List Token → Type 0) (When : Type 0) (K : Identifier → Language C) (g : Identifier → Reader C) → ((name : Identifier) → Step most size When (K name) StopsC (g name))
       → Step most size When (Both (Single (named Name n)) K) StopsC (read_name left >>= g)
@@ -152,16 +152,16 @@ module _ (most size n left : ℕ) (level : n + left ≡ most + 1) where
   abbrev pub made : FunctionSpecifiers → Specifiers → Identifier → Parameters → Block → ExternalDeclaration
   made words specs name parameters body = item.Function (record { words = words; specs = specs; name = name; parameters = parameters; body = body })
 
-  abbrev pub FunctionBehindL : FunctionSpecifiers → Specifiers → Identifier → Language ExternalDeclaration
-  FunctionBehindL words specs name =
+  abbrev pub FunctionFollowedL : FunctionSpecifiers → Specifiers → Identifier → Language ExternalDeclaration
+  FunctionFollowedL words specs name =
       Both (Single (spelt Mark (codes "(") n)) (λ opening. Both (ParametersAt n) (λ parameters. Both (Single (spelt Mark (codes ")") n)) (λ closing. Both (BlockAt n) (λ body. Given (made words specs name parameters body)))))
 
   abbrev pub FunctionOfL : FunctionSpecifiers → Language ExternalDeclaration
-  FunctionOfL words = Both (SpecsAt n) (λ specs. Both (Single (named Name n)) (λ name. FunctionBehindL words specs name))
+  FunctionOfL words = Both (SpecsAt n) (λ specs. Both (Single (named Name n)) (λ name. FunctionFollowedL words specs name))
 
-  pub function_behind_step : 0 < left → (words : FunctionSpecifiers) (specs : Specifiers) (name : Identifier) → Step most size Always (FunctionBehindL words specs name) Anything (read_function_behind size left words specs name)
-  unfolding read_function_behind
-  function_behind_step positive words specs name =
+  pub function_following_step : 0 < left → (words : FunctionSpecifiers) (specs : Specifiers) (name : Identifier) → Step most size Always (FunctionFollowedL words specs name) Anything (read_function_after size left words specs name)
+  unfolding read_function_after read_head
+  function_following_step positive words specs name =
       spelt_then most size Anything Mark (codes "(") n left level Always _ _
       (λ opening. then_ most size Always (ParametersAt n) _ (λ p. StopsParameters) Anything (read_parameters size left) _ (record { by = λ u. by_reads (parameters_reads most size n left level); some = some_parameters n })
       (λ parameters. spelt_then most size Anything Mark (codes ")") n left level Always _ _
@@ -170,13 +170,13 @@ module _ (most size n left : ℕ) (level : n + left ≡ most + 1) where
       (λ body ps c qs ys rest is k fits stop. tt)))
       (λ parameters ps c qs ys rest is k fits stop. begins_is Mark (codes ")") n (λ closing. Both (BlockAt n) (λ body. Given (made words specs name parameters body))) c qs ys rest k fits))
 
-  name_goes : (words : FunctionSpecifiers) (specs : Specifiers) → Begins (Both (Single (named Name n)) (λ name. FunctionBehindL words specs name)) type_goes_on false
+  name_goes : (words : FunctionSpecifiers) (specs : Specifiers) → Begins (Both (Single (named Name n)) (λ name. FunctionFollowedL words specs name)) type_goes_on false
   unfolding type_goes_by spelled_by found_by found_in
-  name_goes words specs = name_begins n (λ name. FunctionBehindL words specs name) type_goes_by false (λ t. refl)
+  name_goes words specs = name_begins n (λ name. FunctionFollowedL words specs name) type_goes_by false (λ t. refl)
 
   pub function_of_step : 0 < left → (words : FunctionSpecifiers) → Step most size Always (FunctionOfL words) Anything (read_function_of size left words)
   unfolding read_function_of
-  function_of_step positive words = specs_then Anything Always _ _ (λ specs. name_then Anything Always _ _ (λ name. function_behind_step positive words specs name)) (name_goes words)
+  function_of_step positive words = specs_then Anything Always _ _ (λ specs. name_then Anything Always _ _ (λ name. function_following_step positive words specs name)) (name_goes words)
 
   -- ---- as trees
 
@@ -193,8 +193,8 @@ module _ (most size n left : ℕ) (level : n + left ≡ most + 1) where
       let g = wants_of_block body n in
       ap (λ u. a ++ (b ++ (c ++ (d ++ (e ++ (f ++ u)))))) (append-nil g) ∙ (simp (append_assoc) refl)
 
-  -- the words, the type and the name before what stands behind them
-  pub function_to : (words : FunctionSpecifiers) (specs : Specifiers) (name' : Identifier) (t : ExternalDeclaration) (ps rs ns qs : List Piece) → rs ≡ wants_of_words words n → SpecsAt n specs ns → FunctionBehindL words specs name' t qs → ps ≡ rs ++ (ns ++ (name name' n ++ qs)) → Of is_item (λ i. wants_of_item i n) t ps
+  -- the words, the type and the name before what stands after them
+  pub function_to : (words : FunctionSpecifiers) (specs : Specifiers) (name' : Identifier) (t : ExternalDeclaration) (ps rs ns qs : List Piece) → rs ≡ wants_of_words words n → SpecsAt n specs ns → FunctionFollowedL words specs name' t qs → ps ≡ rs ++ (ns ++ (name name' n ++ qs)) → Of is_item (λ i. wants_of_item i n) t ps
   unfolding is_item is_function
   function_to words specs name' t ps rs ns qs of_words is b whole =
       let parameters = b.right.first in
@@ -208,17 +208,17 @@ module _ (most size n left : ℕ) (level : n + left ≡ most + 1) where
       }
 
   pub record Headed (words : FunctionSpecifiers) (specs : Specifiers) (name' : Identifier) (t : ExternalDeclaration) (ps : List Piece) : Type 0 where
-    pub behind : List Piece
+    pub following : List Piece
     pub specs_ : SpecsAt n specs (wants_of_specs specs n)
-    pub rest : FunctionBehindL words specs name' t behind
-    pub whole : ps ≡ wants_of_words words n ++ (wants_of_specs specs n ++ (name name' n ++ behind))
+    pub rest : FunctionFollowedL words specs name' t following
+    pub whole : ps ≡ wants_of_words words n ++ (wants_of_specs specs n ++ (name name' n ++ following))
 
   pub function_from : (words : FunctionSpecifiers) (specs : Specifiers) (name' : Identifier) (parameters : Parameters) (body : Block) (ps : List Piece) → Of is_item (λ i. wants_of_item i n) (made words specs name' parameters body) ps → Headed words specs name' (made words specs name' parameters body) ps
   unfolding is_item is_function
   function_from words specs name' parameters body ps is =
       let two = and_left (are_specs specs && are_parameters parameters) (is_block body) is.grammar in
       record {
-        behind = _;
+        following = _;
         specs_ = record { grammar = and_left (are_specs specs) (are_parameters parameters) two; wants = refl };
         rest = in_both _ _ _ _ _ tt (in_single (spelt Mark (codes "(") n) tt)
             (in_both _ _ _ _ _ parameters (record { grammar = and_right (are_specs specs) (are_parameters parameters) two; wants = refl })

@@ -25,8 +25,8 @@ use Rattle.c_tree.specs.declared.programs.ExternalDeclaration.{ExternalDeclarati
 use Rattle.c_tree.specs.declared.programs.ExternalDeclaration.TheVariants as item
 use Rattle.c_reader.specs.Reading.{◌>>=◌, give, choose}
 use Rattle.c_reader.specs.Tokens.{is_word, is_mark, is_spelled, is_kind, spelled_by, found_by, found_in}
-use Rattle.c_expr.specs.Tokens.{type_by, type_goes_on, type_goes_by}
-use Rattle.c_expr.specs.Levels.{readers_at}
+use Rattle.c_grammar.specs.Tokens.{type_by, type_goes_on, type_goes_by}
+use Rattle.c_grammar.specs.Levels.{readers_at}
 use Rattle.c_reader.proofs.Reader.{Language, Of}
 use Rattle.c_reader.proofs.Binding.{Both, fits_part}
 use Rattle.c_reader.proofs.Giving.{Given}
@@ -35,25 +35,25 @@ use Rattle.c_reader.proofs.Choosing.{FirstIs, Either, this, that}
 use Rattle.c_reader.proofs.Beginning.{Begins, begins_both, begins_either}
 use Rattle.c_reader.proofs.Joining.{in_both, in_single, in_given, onto}
 use Rattle.c_reader.proofs.Spelt.{spelt, spelt_at, named}
-use Rattle.c_expr.proofs.Primaries.{first_from}
-use Rattle.c_expr.proofs.Suffixes.{SpecsAt}
-use Rattle.c_expr.proofs.Typing.{SuitsType, begins_type, word_all}
-use Rattle.c_expr.proofs.Dimensioning.{StopsDimensions, DimensionsAt, dimensions_reads, some_dimensions}
-use Rattle.c_expr.proofs.Levels.{all_read}
+use Rattle.c_grammar.proofs.Primaries.{first_from}
+use Rattle.c_grammar.proofs.Suffixes.{SpecsAt}
+use Rattle.c_grammar.proofs.Typing.{SuitsType, begins_type, word_all}
+use Rattle.c_grammar.proofs.Dimensioning.{StopsDimensions, DimensionsAt, dimensions_reads, some_dimensions}
+use Rattle.c_grammar.proofs.Levels.{all_read}
 use Rattle.c_reader.proofs.Truths.{and_left, and_right, and_both}
 use Rattle.c_decl.specs.Bare.{tag_of}
-use Rattle.c_decl.specs.Declarations.{read_pointer, read_bounds, read_objects_behind}
+use Rattle.c_decl.specs.Declarations.{read_pointer, read_bounds, read_objects_after}
 use Rattle.c_decl.proofs.Baring.{bare_tag, tag_wanted, tag_grammar, tag_found, tag_is}
 use Rattle.c_decl.proofs.Declaring.{name_begins, name_stops}
-use Rattle.c_decl.proofs.Declarations.{ObjectsBehind, StopsObjects, PointedL, typed_to, typed_from, pointed_to, pointed_from, some_objects_behind, objects_behind_reads}
+use Rattle.c_decl.proofs.Declarations.{ObjectsFollowed, StopsObjects, PointedL, typed_to, typed_from, pointed_to, pointed_from, some_objects_following, objects_following_reads}
 use Rattle.c_decl.proofs.Pointing.{PointerAt, StopsPointer, some_pointer, pointed_begins, pointer_reads}
-use Rattle.c_syntax.specs.Items.{words_of, read_typedef, read_function_behind, read_inlines, read_fixed, read_inlined, read_item_objects, read_item_behind, read_item_of, read_static_inlined, read_static, read_item_tag, read_plain_behind, read_plain, read_item}
-use Rattle.c_syntax.specs.Starts.{starts_item, item_by}
-use Rattle.c_syntax.proofs.ByTree.{by_reads, by_as, choose_by}
-use Rattle.c_syntax.proofs.Heads.{InlinesAt, FixedAt, NoInline, NoWords, fixed_open, inlines_step, fixed_step, name_then, specs_then, made, FunctionBehindL, FunctionOfL, function_behind_step, function_of_step, function_to, function_from}
-use Rattle.c_syntax.proofs.Optionals.{behind_opens}
-use Rattle.c_syntax.proofs.Singles.{Always}
-use Rattle.c_syntax.proofs.Steps.{Step, Anything, then_, given, spelt_then, placed_then, begins_is, begins_is_at, begins_spelt, begins_placed}
+use Rattle.c_syntax.specs.Items.{words_of, read_typedef, read_ended_dimensions, read_function_after, read_inlines, read_fixed, read_inlined, read_item_objects, read_item_after, read_item_of, read_static_inlined, read_static, read_item_tag, read_plain_after, read_plain, read_item}
+use Rattle.c_statement.specs.Starts.{starts_item, item_by}
+use Rattle.c_statement.proofs.ByTree.{by_reads, by_as, choose_by}
+use Rattle.c_syntax.proofs.Heads.{InlinesAt, FixedAt, NoInline, NoWords, fixed_open, inlines_step, fixed_step, name_then, specs_then, made, FunctionFollowedL, FunctionOfL, function_following_step, function_of_step, function_to, function_from}
+use Rattle.c_syntax.proofs.Optionals.{following_opens}
+use Rattle.c_statement.proofs.Singles.{Always}
+use Rattle.c_statement.proofs.Steps.{Step, Anything, then_, given, spelt_then, placed_then, begins_is, begins_is_at, begins_spelt, begins_placed}
 
 abbrev pub ItemAt : ℕ → Language ExternalDeclaration
 ItemAt n = Of is_item (λ i. wants_of_item i n)
@@ -65,33 +65,33 @@ module _ (most size n left : ℕ) (level : n + left ≡ most + 1) (positive : 0 
   -- ---- objects
 
   abbrev ObjectsL : Option Place → Specifiers → Option Pointer → Identifier → Language ExternalDeclaration
-  ObjectsL fixed specs pointer name = Both (ObjectsBehind n specs pointer name) (λ objects. Both (Single (spelt Mark (codes ";") n)) (λ closing. Given (item.Declaration fixed objects)))
+  ObjectsL fixed specs pointer name = Both (ObjectsFollowed n specs pointer name) (λ objects. Both (Single (spelt Mark (codes ";") n)) (λ closing. Given (item.Declaration fixed objects)))
 
   objects_step : (fixed : Option Place) (specs : Specifiers) (pointer : Option Pointer) (name : Identifier) → Step most size Always (ObjectsL fixed specs pointer name) Anything (read_item_objects size left fixed specs pointer name)
   unfolding read_item_objects
   objects_step fixed specs pointer name =
-      then_ most size Always (ObjectsBehind n specs pointer name) _ (λ o. StopsObjects) Anything (read_objects_behind size left specs pointer name) _ (record { by = λ u. by_reads (objects_behind_reads most size n left level specs pointer name); some = some_objects_behind n specs pointer name })
+      then_ most size Always (ObjectsFollowed n specs pointer name) _ (λ o. StopsObjects) Anything (read_objects_after size left specs pointer name) _ (record { by = λ u. by_reads (objects_following_reads most size n left level specs pointer name); some = some_objects_following n specs pointer name })
       (λ objects. spelt_then most size Anything Mark (codes ";") n left level Always _ _ (λ closing. given most size Anything Always (item.Declaration fixed objects)))
       (λ objects ps c qs ys rest is k fits stop. begins_is Mark (codes ";") n (λ closing. Given (item.Declaration fixed objects)) c qs ys rest k fits)
 
-  -- the first token of what stands behind a declared name
+  -- the first token of what stands after a declared name
   objects_begin : (fixed : Option Place) (specs : Specifiers) (pointer : Option Pointer) (name : Identifier) (by : TokenKind → List ℕ → Bool) (b : Bool) → by Mark (codes "[") ≡ b → by Mark (codes "=") ≡ b → by Mark (codes ",") ≡ b → by Mark (codes ";") ≡ b
       → Begins (ObjectsL fixed specs pointer name) (λ w. by w.kind w.text) b
   objects_begin fixed specs pointer name by b bracket equals comma semicolon t ps front rest x fits =
       let o = x.left in
       let parted = fits_part x.pieces1 x.pieces2 front (subst (λ u. Fits u front) x.whole fits) in
-      subst (λ u. FirstIs (λ w. by w.kind w.text) b u) (sym (ap (λ u. u ++ rest) parted.whole ∙ append_assoc parted.front parted.behind rest))
-      (behind_opens by b n bracket equals comma o.first o.rest parted.front (parted.behind ++ rest) (subst (λ u. Fits u parted.front) o.wants parted.left)
-      (begins_spelt Mark (codes ";") n (λ closing. Given (item.Declaration fixed x.first)) by b semicolon t x.pieces2 parted.behind rest x.right parted.right))
+      subst (λ u. FirstIs (λ w. by w.kind w.text) b u) (sym (ap (λ u. u ++ rest) parted.whole ∙ append_assoc parted.front parted.following rest))
+      (following_opens by b n bracket equals comma o.first o.rest parted.front (parted.following ++ rest) (subst (λ u. Fits u parted.front) o.wants parted.left)
+      (begins_spelt Mark (codes ";") n (λ closing. Given (item.Declaration fixed x.first)) by b semicolon t x.pieces2 parted.following rest x.right parted.right))
 
-  -- ---- behind a type: objects, or a function
+  -- ---- after a type: objects, or a function
 
-  abbrev BehindL : Option Place → Specifiers → Option Pointer → Identifier → Language ExternalDeclaration
-  BehindL fixed specs None name = Either (FunctionBehindL most size n left level (words_of fixed) specs name) (ObjectsL fixed specs None name)
-  BehindL fixed specs (Some pointer) name = ObjectsL fixed specs (Some pointer) name
+  abbrev FollowedL : Option Place → Specifiers → Option Pointer → Identifier → Language ExternalDeclaration
+  FollowedL fixed specs None name = Either (FunctionFollowedL most size n left level (words_of fixed) specs name) (ObjectsL fixed specs None name)
+  FollowedL fixed specs (Some pointer) name = ObjectsL fixed specs (Some pointer) name
 
   abbrev NamedItemL : Option Place → Specifiers → Option Pointer → Language ExternalDeclaration
-  NamedItemL fixed specs pointer = Both (Single (named Name n)) (λ name. BehindL fixed specs pointer name)
+  NamedItemL fixed specs pointer = Both (Single (named Name n)) (λ name. FollowedL fixed specs pointer name)
 
   abbrev ItemOfL : Option Place → Specifiers → Language ExternalDeclaration
   ItemOfL fixed specs = Both (PointerAt n) (NamedItemL fixed specs)
@@ -100,26 +100,26 @@ module _ (most size n left : ℕ) (level : n + left ≡ most + 1) (positive : 0 
   unfolding spelled_by is_spelled is_kind
   no_bracket fixed specs pointer name = objects_begin fixed specs pointer name (spelled_by Mark (codes "(")) false refl refl refl refl
 
-  behind_step : (fixed : Option Place) (specs : Specifiers) (pointer : Option Pointer) (name : Identifier) → Step most size Always (BehindL fixed specs pointer name) Anything (read_item_behind size left fixed specs pointer name)
-  unfolding read_item_behind
-  behind_step fixed specs None name = record {
-    by = λ u. choose_by (FunctionBehindL most size n left level (words_of fixed) specs name) (ObjectsL fixed specs None name) most size Anything (is_mark (codes "(")) (read_function_behind size left (words_of fixed) specs name) (read_item_objects size left fixed specs None name)
-        ((function_behind_step most size n left level positive (words_of fixed) specs name).by tt) ((objects_step fixed specs None name).by tt)
+  following_step : (fixed : Option Place) (specs : Specifiers) (pointer : Option Pointer) (name : Identifier) → Step most size Always (FollowedL fixed specs pointer name) Anything (read_item_after size left fixed specs pointer name)
+  unfolding read_item_after
+  following_step fixed specs None name = record {
+    by = λ u. choose_by (FunctionFollowedL most size n left level (words_of fixed) specs name) (ObjectsL fixed specs None name) most size Anything (is_mark (codes "(")) (read_function_after size left (words_of fixed) specs name) (read_item_objects size left fixed specs None name)
+        ((function_following_step most size n left level positive (words_of fixed) specs name).by tt) ((objects_step fixed specs None name).by tt)
         (λ t ps front rest is fits stop. begins_is Mark (codes "(") n _ t ps front rest is fits)
         (λ t ps front rest is fits stop. no_bracket fixed specs None name t ps front rest is fits);
     some = let x = (objects_step fixed specs None name).some in (x.0, (x.1.0, that x.1.1));
   }
-  behind_step fixed specs (Some pointer) name = objects_step fixed specs (Some pointer) name
+  following_step fixed specs (Some pointer) name = objects_step fixed specs (Some pointer) name
 
   item_of_step : (fixed : Option Place) (specs : Specifiers) → Step most size Always (ItemOfL fixed specs) Anything (read_item_of size left fixed specs)
   unfolding read_item_of
   item_of_step fixed specs =
       then_ most size Always (PointerAt n) (NamedItemL fixed specs) (λ p. StopsPointer) Anything (read_pointer left) _ (record { by = λ u. by_reads (pointer_reads most size n left level); some = some_pointer n })
-      (λ pointer. name_then most size n left level Anything Always _ _ (λ name. behind_step fixed specs pointer name))
-      (λ pointer ps c qs ys rest is k fits stop. name_stops n (λ name. BehindL fixed specs pointer name) c qs ys rest k fits)
+      (λ pointer. name_then most size n left level Anything Always _ _ (λ name. following_step fixed specs pointer name))
+      (λ pointer ps c qs ys rest is k fits stop. name_stops n (λ name. FollowedL fixed specs pointer name) c qs ys rest k fits)
 
   item_of_begins : (fixed : Option Place) (specs : Specifiers) (by : TokenKind → List ℕ → Bool) (b : Bool) → by Mark (codes "*") ≡ b → ((text : List ℕ) → by Name text ≡ b) → Begins (ItemOfL fixed specs) (λ w. by w.kind w.text) b
-  item_of_begins fixed specs by b star is_name = pointed_begins n (NamedItemL fixed specs) by b star (λ pointer. name_begins n (λ name. BehindL fixed specs pointer name) by b is_name)
+  item_of_begins fixed specs by b star is_name = pointed_begins n (NamedItemL fixed specs) by b star (λ pointer. name_begins n (λ name. FollowedL fixed specs pointer name) by b is_name)
 
   item_of_stops : (fixed : Option Place) (specs : Specifiers) → Begins (ItemOfL fixed specs) type_goes_on false
   unfolding type_goes_by spelled_by found_by found_in
@@ -130,12 +130,12 @@ module _ (most size n left : ℕ) (level : n + left ≡ most + 1) (positive : 0 
   abbrev TagL : TagSpecifier → Language ExternalDeclaration
   TagL tag = Both (Single (spelt Mark (codes ";") n)) (λ closing. Given (item.TagSpecifier tag))
 
-  abbrev PlainBehindL : Specifiers → Option TagSpecifier → Language ExternalDeclaration
-  PlainBehindL specs None = ItemOfL None specs
-  PlainBehindL specs (Some tag) = Either (TagL tag) (ItemOfL None specs)
+  abbrev PlainFollowedL : Specifiers → Option TagSpecifier → Language ExternalDeclaration
+  PlainFollowedL specs None = ItemOfL None specs
+  PlainFollowedL specs (Some tag) = Either (TagL tag) (ItemOfL None specs)
 
   abbrev PlainL : Language ExternalDeclaration
-  PlainL = Both (SpecsAt n) (λ specs. PlainBehindL specs (tag_of specs))
+  PlainL = Both (SpecsAt n) (λ specs. PlainFollowedL specs (tag_of specs))
 
   tag_step : (tag : TagSpecifier) → Step most size Always (TagL tag) Anything (read_item_tag left tag)
   unfolding read_item_tag
@@ -145,24 +145,24 @@ module _ (most size n left : ℕ) (level : n + left ≡ most + 1) (positive : 0 
   unfolding spelled_by is_spelled is_kind
   no_semicolon specs = item_of_begins None specs (spelled_by Mark (codes ";")) false refl (λ t. refl)
 
-  plain_behind_step : (specs : Specifiers) (tag : Option TagSpecifier) → Step most size Always (PlainBehindL specs tag) Anything (read_plain_behind size left specs tag)
-  unfolding read_plain_behind
-  plain_behind_step specs None = item_of_step None specs
-  plain_behind_step specs (Some tag) = record {
+  plain_following_step : (specs : Specifiers) (tag : Option TagSpecifier) → Step most size Always (PlainFollowedL specs tag) Anything (read_plain_after size left specs tag)
+  unfolding read_plain_after
+  plain_following_step specs None = item_of_step None specs
+  plain_following_step specs (Some tag) = record {
     by = λ u. choose_by (TagL tag) (ItemOfL None specs) most size Anything (is_mark (codes ";")) (read_item_tag left tag) (read_item_of size left None specs) ((tag_step tag).by tt) ((item_of_step None specs).by tt)
         (λ t ps front rest is fits stop. begins_is Mark (codes ";") n (λ closing. Given (item.TagSpecifier tag)) t ps front rest is fits)
         (λ t ps front rest is fits stop. no_semicolon specs t ps front rest is fits);
     some = let x = (item_of_step None specs).some in (x.0, (x.1.0, that x.1.1));
   }
 
-  plain_stops : (specs : Specifiers) (tag : Option TagSpecifier) → Begins (PlainBehindL specs tag) type_goes_on false
+  plain_stops : (specs : Specifiers) (tag : Option TagSpecifier) → Begins (PlainFollowedL specs tag) type_goes_on false
   unfolding type_goes_by spelled_by found_by found_in
   plain_stops specs None = item_of_begins None specs type_goes_by false refl (λ t. refl)
   plain_stops specs (Some tag) = begins_either (TagL tag) (ItemOfL None specs) type_goes_on false (begins_spelt Mark (codes ";") n (λ closing. Given (item.TagSpecifier tag)) type_goes_by false refl) (item_of_begins None specs type_goes_by false refl (λ t. refl))
 
   plain_step : Step most size Always PlainL Anything (read_plain size left)
   unfolding read_plain
-  plain_step = specs_then most size n left level Anything Always _ _ (λ specs. plain_behind_step specs (tag_of specs)) (λ specs. plain_stops specs (tag_of specs))
+  plain_step = specs_then most size n left level Anything Always _ _ (λ specs. plain_following_step specs (tag_of specs)) (λ specs. plain_stops specs (tag_of specs))
 
   -- ---- items that begin with static
 
@@ -211,8 +211,8 @@ module _ (most size n left : ℕ) (level : n + left ≡ most + 1) (positive : 0 
   unfolding spelled_by is_spelled is_kind
   typed_no_inline place = begins_both _ _ (is_word (codes "inline")) false (begins_type (spelled_by Word (codes "inline")) false suits_inline n)
 
-  static_behind_step : (place : Place) → Step most size Always (Either (StaticInlinedL place) (StaticTypedL place)) Anything (choose (is_word (codes "inline")) (read_static_inlined size left place) ((readers_at size left).specs >>= read_item_of size left (Some place)))
-  static_behind_step place = record {
+  static_following_step : (place : Place) → Step most size Always (Either (StaticInlinedL place) (StaticTypedL place)) Anything (choose (is_word (codes "inline")) (read_static_inlined size left place) ((readers_at size left).specs >>= read_item_of size left (Some place)))
+  static_following_step place = record {
     by = λ u. choose_by (StaticInlinedL place) (StaticTypedL place) most size Anything (is_word (codes "inline")) (read_static_inlined size left place) ((readers_at size left).specs >>= read_item_of size left (Some place)) ((static_inlined_step place).by tt) ((static_typed_step place).by tt)
         (λ t ps front rest is fits stop. begins_is_at Word (codes "inline") n _ t ps front rest is fits)
         (λ t ps front rest is fits stop. typed_no_inline place t ps front rest is fits);
@@ -221,7 +221,7 @@ module _ (most size n left : ℕ) (level : n + left ≡ most + 1) (positive : 0 
 
   static_step : Step most size Always StaticL Anything (read_static size left)
   unfolding read_static
-  static_step = placed_then most size Anything Word (codes "static") n left level Always _ _ static_behind_step
+  static_step = placed_then most size Anything Word (codes "static") n left level Always _ _ static_following_step
 
   -- ---- functions that begin with inline
 
@@ -232,14 +232,14 @@ module _ (most size n left : ℕ) (level : n + left ≡ most + 1) (positive : 0 
   unfolding spelled_by is_spelled is_kind
   no_static words = function_begins words (spelled_by Word (codes "static")) false suits_static
 
-  -- behind the words inline stands static or a type
+  -- after the words inline stands static or a type
   fixed_no_inline : (first : Place) (rest : List Place) → Begins (Both (FixedAt n) (λ fixed. FunctionOfL most size n left level (FunctionSpecifiers_ (first ∷ rest) fixed))) (is_word (codes "inline")) false
   unfolding spelled_by is_spelled is_kind
   fixed_no_inline first rest t ps front more x fits =
       let by = spelled_by Word (codes "inline") in
       let parted = fits_part x.pieces1 x.pieces2 front (subst (λ u. Fits u front) x.whole fits) in
-      subst (λ u. FirstIs (λ w. by w.kind w.text) false u) (sym (ap (λ u. u ++ more) parted.whole ∙ append_assoc parted.front parted.behind more))
-      (fixed_open by false n refl x.first parted.front (parted.behind ++ more) (subst (λ u. Fits u parted.front) x.left.wants parted.left) (function_begins (FunctionSpecifiers_ (first ∷ rest) x.first) by false suits_inline t x.pieces2 parted.behind more x.right parted.right))
+      subst (λ u. FirstIs (λ w. by w.kind w.text) false u) (sym (ap (λ u. u ++ more) parted.whole ∙ append_assoc parted.front parted.following more))
+      (fixed_open by false n refl x.first parted.front (parted.following ++ more) (subst (λ u. Fits u parted.front) x.left.wants parted.left) (function_begins (FunctionSpecifiers_ (first ∷ rest) x.first) by false suits_inline t x.pieces2 parted.following more x.right parted.right))
 
   inlined_step : Step most size Always InlinedL Anything (read_inlined size left)
   unfolding read_inlined
@@ -270,7 +270,7 @@ module _ (most size n left : ℕ) (level : n + left ≡ most + 1) (positive : 0 
   typedef_name place specs = name_begins n _ type_goes_by false (λ t. refl)
 
   typedef_step : Step most size Always TypedefL Anything (read_typedef size left)
-  unfolding read_typedef
+  unfolding read_typedef read_ended_dimensions
   typedef_step =
       placed_then most size Anything Word (codes "typedef") n left level Always _ _
       (λ place. specs_then most size n left level Anything Always _ _
@@ -310,7 +310,7 @@ module _ (most size n left : ℕ) (level : n + left ≡ most + 1) (positive : 0 
       (in_both _ _ _ _ _ dimensions (record { grammar = and_right (are_specs specs) (list_all is_dimension_tree dimensions) is.grammar; wants = refl })
       (in_both _ _ _ _ _ tt (in_single (spelt Mark (codes ";") n) tt) (in_given (item.Typedef place specs name' dimensions)))))))
 
-  -- ---- objects and functions behind a type, as trees
+  -- ---- objects and functions after a type, as trees
 
   words_same : (fixed : Option Place) → static_wants fixed n ≡ wants_of_words (words_of fixed) n
   unfolding static_wants wants_of_words wants_of_static words_at
@@ -331,21 +331,21 @@ module _ (most size n left : ℕ) (level : n + left ≡ most + 1) (positive : 0 
       (whole ∙ ap (λ u. fs ++ (ns ++ (pps ++ (nm ++ u)))) (onto x.whole refl (onto x.right.whole x.right.left.one x.right.right.none)) ∙ flat fs ns pps nm x.pieces1 end
       ∙ ap (λ u. u ++ (ns ++ (pps ++ (nm ++ x.pieces1))) ++ end) of_fixed ∙ ap (λ u. static_wants fixed n ++ u ++ end) at.wants)
 
-  function_here : (fixed : Option Place) (specs : Specifiers) (name' : Identifier) (t : ExternalDeclaration) (ps fs ns pps qs : List Piece) → fs ≡ static_wants fixed n → SpecsAt n specs ns → PointerAt n None pps → FunctionBehindL most size n left level (words_of fixed) specs name' t qs
+  function_here : (fixed : Option Place) (specs : Specifiers) (name' : Identifier) (t : ExternalDeclaration) (ps fs ns pps qs : List Piece) → fs ≡ static_wants fixed n → SpecsAt n specs ns → PointerAt n None pps → FunctionFollowedL most size n left level (words_of fixed) specs name' t qs
       → ps ≡ fs ++ (ns ++ (pps ++ ((named Name n name' ∷ []) ++ qs))) → ItemAt n t ps
   unfolding wants_of_pointer
   function_here fixed specs name' t ps fs ns pps qs of_fixed is of_pointer x whole =
       function_to most size n left level (words_of fixed) specs name' t ps fs ns qs (of_fixed ∙ words_same fixed) is x (whole ∙ ap (λ u. fs ++ (ns ++ (u ++ ((named Name n name' ∷ []) ++ qs)))) of_pointer.wants)
 
-  behind_to : (fixed : Option Place) (specs : Specifiers) (pointer : Option Pointer) (name' : Identifier) (t : ExternalDeclaration) (ps fs ns pps qs : List Piece) → fs ≡ static_wants fixed n → SpecsAt n specs ns → PointerAt n pointer pps → BehindL fixed specs pointer name' t qs
+  following_to : (fixed : Option Place) (specs : Specifiers) (pointer : Option Pointer) (name' : Identifier) (t : ExternalDeclaration) (ps fs ns pps qs : List Piece) → fs ≡ static_wants fixed n → SpecsAt n specs ns → PointerAt n pointer pps → FollowedL fixed specs pointer name' t qs
       → ps ≡ fs ++ (ns ++ (pps ++ ((named Name n name' ∷ []) ++ qs))) → ItemAt n t ps
-  behind_to fixed specs None name' t ps fs ns pps qs of_fixed is of_pointer (this x) whole = function_here fixed specs name' t ps fs ns pps qs of_fixed is of_pointer x whole
-  behind_to fixed specs None name' t ps fs ns pps qs of_fixed is of_pointer (that x) whole = objects_to fixed specs None name' t ps fs ns pps qs of_fixed is of_pointer x whole
-  behind_to fixed specs (Some pointer) name' t ps fs ns pps qs of_fixed is of_pointer x whole = objects_to fixed specs (Some pointer) name' t ps fs ns pps qs of_fixed is of_pointer x whole
+  following_to fixed specs None name' t ps fs ns pps qs of_fixed is of_pointer (this x) whole = function_here fixed specs name' t ps fs ns pps qs of_fixed is of_pointer x whole
+  following_to fixed specs None name' t ps fs ns pps qs of_fixed is of_pointer (that x) whole = objects_to fixed specs None name' t ps fs ns pps qs of_fixed is of_pointer x whole
+  following_to fixed specs (Some pointer) name' t ps fs ns pps qs of_fixed is of_pointer x whole = objects_to fixed specs (Some pointer) name' t ps fs ns pps qs of_fixed is of_pointer x whole
 
   item_of_to : (fixed : Option Place) (specs : Specifiers) (t : ExternalDeclaration) (ps fs ns qs : List Piece) → fs ≡ static_wants fixed n → SpecsAt n specs ns → ItemOfL fixed specs t qs → ps ≡ fs ++ (ns ++ qs) → ItemAt n t ps
   item_of_to fixed specs t ps fs ns qs of_fixed is b whole =
-      behind_to fixed specs b.first b.right.first t ps fs ns b.pieces1 b.right.pieces2 of_fixed is b.left b.right.right
+      following_to fixed specs b.first b.right.first t ps fs ns b.pieces1 b.right.pieces2 of_fixed is b.left b.right.right
       (whole ∙ ap (λ u. fs ++ (ns ++ u)) (onto b.whole refl (onto b.right.whole b.right.left.one refl)))
 
   tag_to : (specs : Specifiers) (tag : TagSpecifier) (t : ExternalDeclaration) (ps ns qs : List Piece) → tag_of specs ≡ Some tag → SpecsAt n specs ns → TagL tag t qs → ps ≡ ns ++ qs → ItemAt n t ps
@@ -355,29 +355,29 @@ module _ (most size n left : ℕ) (level : n + left ≡ most + 1) (positive : 0 
       item_is n t (item.TagSpecifier tag) ps b.right.tree_is (sym (tag_grammar tag) ∙ ap are_specs (sym bare) ∙ is.grammar)
       (whole ∙ ap (λ u. u ++ qs) (is.wants ∙ ap (λ u. wants_of_specs u n) bare ∙ tag_wanted tag n) ∙ ap (λ u. wants_of_tag tag n ++ u) (onto b.whole b.left.one b.right.none))
 
-  plain_behind_to : (specs : Specifiers) (tag : Option TagSpecifier) (t : ExternalDeclaration) (ps ns qs : List Piece) → tag_of specs ≡ tag → SpecsAt n specs ns → PlainBehindL specs tag t qs → ps ≡ ns ++ qs → ItemAt n t ps
+  plain_following_to : (specs : Specifiers) (tag : Option TagSpecifier) (t : ExternalDeclaration) (ps ns qs : List Piece) → tag_of specs ≡ tag → SpecsAt n specs ns → PlainFollowedL specs tag t qs → ps ≡ ns ++ qs → ItemAt n t ps
   unfolding static_wants
-  plain_behind_to specs None t ps ns qs found is b whole = item_of_to None specs t ps [] ns qs refl is b whole
-  plain_behind_to specs (Some tag) t ps ns qs found is (this b) whole = tag_to specs tag t ps ns qs found is b whole
-  plain_behind_to specs (Some tag) t ps ns qs found is (that b) whole = item_of_to None specs t ps [] ns qs refl is b whole
+  plain_following_to specs None t ps ns qs found is b whole = item_of_to None specs t ps [] ns qs refl is b whole
+  plain_following_to specs (Some tag) t ps ns qs found is (this b) whole = tag_to specs tag t ps ns qs found is b whole
+  plain_following_to specs (Some tag) t ps ns qs found is (that b) whole = item_of_to None specs t ps [] ns qs refl is b whole
 
   plain_to : (t : ExternalDeclaration) (ps : List Piece) → PlainL t ps → ItemAt n t ps
-  plain_to t ps b = plain_behind_to b.first (tag_of b.first) t ps b.pieces1 b.pieces2 refl b.left b.right b.whole
+  plain_to t ps b = plain_following_to b.first (tag_of b.first) t ps b.pieces1 b.pieces2 refl b.left b.right b.whole
 
-  static_behind_to : (place : Place) (t : ExternalDeclaration) (ps qs : List Piece) → Either (StaticInlinedL place) (StaticTypedL place) t qs → ps ≡ (spelt_at Word (codes "static") n place ∷ []) ++ qs → ItemAt n t ps
+  static_following_to : (place : Place) (t : ExternalDeclaration) (ps qs : List Piece) → Either (StaticInlinedL place) (StaticTypedL place) t qs → ps ≡ (spelt_at Word (codes "static") n place ∷ []) ++ qs → ItemAt n t ps
   unfolding wants_of_words wants_of_static words_at static_wants
-  static_behind_to place t ps qs (this b) whole =
+  static_following_to place t ps qs (this b) whole =
       let first = b.first in
       let rest = b.right.first in
       let f = b.right.right in
       let fs = (spelt_at Word (codes "static") n place ∷ []) ++ ((spelt_at Word (codes "inline") n first ∷ []) ++ words_at rest (codes "inline") n) in
       function_to most size n left level (FunctionSpecifiers_ [] (StaticSpecifier_ place (first ∷ rest))) f.first f.right.first t ps fs f.pieces1 f.right.pieces2 refl f.left f.right.right
       (whole ∙ ap (λ u. (spelt_at Word (codes "static") n place ∷ []) ++ u) (onto b.whole b.left.one (onto b.right.whole b.right.left.wants (onto f.whole refl (onto f.right.whole f.right.left.one refl)))))
-  static_behind_to place t ps qs (that b) whole =
+  static_following_to place t ps qs (that b) whole =
       item_of_to (Some place) b.first t ps (spelt_at Word (codes "static") n place ∷ []) b.pieces1 b.pieces2 refl b.left b.right (whole ∙ ap (λ u. (spelt_at Word (codes "static") n place ∷ []) ++ u) b.whole)
 
   static_to : (t : ExternalDeclaration) (ps : List Piece) → StaticL t ps → ItemAt n t ps
-  static_to t ps b = static_behind_to b.first t ps b.pieces2 b.right (b.whole ∙ ap (λ u. u ++ b.pieces2) b.left.one)
+  static_to t ps b = static_following_to b.first t ps b.pieces2 b.right (b.whole ∙ ap (λ u. u ++ b.pieces2) b.left.one)
 
   inlined_to : (t : ExternalDeclaration) (ps : List Piece) → InlinedL t ps → ItemAt n t ps
   unfolding wants_of_words words_at
@@ -394,21 +394,21 @@ module _ (most size n left : ℕ) (level : n + left ≡ most + 1) (positive : 0 
 
   -- ---- the other way round
 
-  plain_behind : (specs : Specifiers) (tag : Option TagSpecifier) (t : ExternalDeclaration) (qs : List Piece) → ItemOfL None specs t qs → PlainBehindL specs tag t qs
-  plain_behind specs None t qs b = b
-  plain_behind specs (Some tag) t qs b = that b
+  plain_after : (specs : Specifiers) (tag : Option TagSpecifier) (t : ExternalDeclaration) (qs : List Piece) → ItemOfL None specs t qs → PlainFollowedL specs tag t qs
+  plain_after specs None t qs b = b
+  plain_after specs (Some tag) t qs b = that b
 
-  objects_behind : (fixed : Option Place) (specs : Specifiers) (pointer : Option Pointer) (name' : Identifier) (t : ExternalDeclaration) (qs : List Piece) → ObjectsL fixed specs pointer name' t qs → BehindL fixed specs pointer name' t qs
-  objects_behind fixed specs None name' t qs b = that b
-  objects_behind fixed specs (Some pointer) name' t qs b = b
+  objects_after : (fixed : Option Place) (specs : Specifiers) (pointer : Option Pointer) (name' : Identifier) (t : ExternalDeclaration) (qs : List Piece) → ObjectsL fixed specs pointer name' t qs → FollowedL fixed specs pointer name' t qs
+  objects_after fixed specs None name' t qs b = that b
+  objects_after fixed specs (Some pointer) name' t qs b = b
 
-  -- what stands behind the type of objects
+  -- what stands after the type of objects
   record Objected (fixed : Option Place) (t : ExternalDeclaration) (ps : List Piece) : Type 0 where
     pub specs : Specifiers
     pub typed : List Piece
     pub rest : List Piece
     pub is : SpecsAt n specs typed
-    pub behind : ItemOfL fixed specs t rest
+    pub following : ItemOfL fixed specs t rest
     pub whole : ps ≡ static_wants fixed n ++ (typed ++ rest)
 
   objected : (fixed : Option Place) (objects : Declaration) (ps : List Piece) → ItemAt n (item.Declaration fixed objects) ps → Objected fixed (item.Declaration fixed objects) ps
@@ -423,8 +423,8 @@ module _ (most size n left : ℕ) (level : n + left ≡ most + 1) (positive : 0 
         typed = t.pieces1;
         rest = p.pieces1 ++ (p.right.pieces1 ++ (p.right.pieces2 ++ (end ++ [])));
         is = t.left;
-        behind = in_both _ _ _ _ _ p.first p.left (in_both _ _ _ _ _ p.right.first p.right.left
-            (objects_behind fixed t.first p.first p.right.first (item.Declaration fixed objects) _ (in_both _ _ _ _ _ objects p.right.right (in_both _ _ _ _ _ tt (in_single (spelt Mark (codes ";") n) tt) (in_given (item.Declaration fixed objects))))));
+        following = in_both _ _ _ _ _ p.first p.left (in_both _ _ _ _ _ p.right.first p.right.left
+            (objects_after fixed t.first p.first p.right.first (item.Declaration fixed objects) _ (in_both _ _ _ _ _ objects p.right.right (in_both _ _ _ _ _ tt (in_single (spelt Mark (codes ";") n) tt) (in_given (item.Declaration fixed objects))))));
         whole = is.wants ∙ ap (λ u. static_wants fixed n ++ u ++ end) (t.whole ∙ ap (λ u. t.pieces1 ++ u) (p.whole ∙ ap (λ u. p.pieces1 ++ u) p.right.whole)) ∙ flat (static_wants fixed n) t.pieces1 p.pieces1 p.right.pieces1 p.right.pieces2 end;
       }
 
@@ -432,20 +432,20 @@ module _ (most size n left : ℕ) (level : n + left ≡ most + 1) (positive : 0 
   ItemL = Either TypedefL (Either InlinedL (Either StaticL PlainL))
 
   of_plain : (specs : Specifiers) (t : ExternalDeclaration) (ps ns qs : List Piece) → SpecsAt n specs ns → ItemOfL None specs t qs → ps ≡ ns ++ qs → ItemL t ps
-  of_plain specs t ps ns qs is b whole = that (that (that (record { first = specs; pieces1 = ns; pieces2 = qs; left = is; right = plain_behind specs (tag_of specs) t qs b; whole = whole })))
+  of_plain specs t ps ns qs is b whole = that (that (that (record { first = specs; pieces1 = ns; pieces2 = qs; left = is; right = plain_after specs (tag_of specs) t qs b; whole = whole })))
 
   of_static : (place : Place) (t : ExternalDeclaration) (ps qs : List Piece) → Either (StaticInlinedL place) (StaticTypedL place) t qs → ps ≡ (spelt_at Word (codes "static") n place ∷ []) ++ qs → ItemL t ps
   of_static place t ps qs b whole = that (that (this (record { first = place; pieces1 = spelt_at Word (codes "static") n place ∷ []; pieces2 = qs; left = in_single (spelt_at Word (codes "static") n) place; right = b; whole = whole })))
 
   objects_from : (fixed : Option Place) (objects : Declaration) (ps : List Piece) → ItemAt n (item.Declaration fixed objects) ps → ItemL (item.Declaration fixed objects) ps
   unfolding static_wants
-  objects_from None objects ps is = let o = objected None objects ps is in of_plain o.specs (item.Declaration None objects) ps o.typed o.rest o.is o.behind o.whole
+  objects_from None objects ps is = let o = objected None objects ps is in of_plain o.specs (item.Declaration None objects) ps o.typed o.rest o.is o.following o.whole
   objects_from (Some place) objects ps is =
       let o = objected (Some place) objects ps is in
-      of_static place (item.Declaration (Some place) objects) ps (o.typed ++ o.rest) (that (in_both _ _ _ _ _ o.specs o.is o.behind)) o.whole
+      of_static place (item.Declaration (Some place) objects) ps (o.typed ++ o.rest) (that (in_both _ _ _ _ _ o.specs o.is o.following)) o.whole
 
-  tag_behind : (tag : TagSpecifier) → PlainBehindL (bare_tag tag) (tag_of (bare_tag tag)) (item.TagSpecifier tag) ((spelt Mark (codes ";") n tt ∷ []) ++ [])
-  tag_behind tag = subst (λ u. PlainBehindL (bare_tag tag) u (item.TagSpecifier tag) ((spelt Mark (codes ";") n tt ∷ []) ++ [])) (sym (tag_found tag)) (this (in_both _ _ _ _ _ tt (in_single (spelt Mark (codes ";") n) tt) (in_given (item.TagSpecifier tag))))
+  tag_following : (tag : TagSpecifier) → PlainFollowedL (bare_tag tag) (tag_of (bare_tag tag)) (item.TagSpecifier tag) ((spelt Mark (codes ";") n tt ∷ []) ++ [])
+  tag_following tag = subst (λ u. PlainFollowedL (bare_tag tag) u (item.TagSpecifier tag) ((spelt Mark (codes ";") n tt ∷ []) ++ [])) (sym (tag_found tag)) (this (in_both _ _ _ _ _ tt (in_single (spelt Mark (codes ";") n) tt) (in_given (item.TagSpecifier tag))))
 
   tag_from : (tag : TagSpecifier) (ps : List Piece) → ItemAt n (item.TagSpecifier tag) ps → ItemL (item.TagSpecifier tag) ps
   unfolding is_item wants_of_item
@@ -455,16 +455,16 @@ module _ (most size n left : ℕ) (level : n + left ≡ most + 1) (positive : 0 
         pieces1 = wants_of_specs (bare_tag tag) n;
         pieces2 = (spelt Mark (codes ";") n tt ∷ []) ++ [];
         left = record { grammar = tag_grammar tag ∙ is.grammar; wants = refl };
-        right = tag_behind tag;
+        right = tag_following tag;
         whole = is.wants ∙ ap (λ u. u ++ (spelt Mark (codes ";") n tt ∷ [])) (sym (tag_wanted tag n));
       })))
 
   -- a function, by its words
-  plain_function : (specs : Specifiers) (name' : Identifier) (t : ExternalDeclaration) (qs : List Piece) → FunctionBehindL most size n left level (words_of None) specs name' t qs → ItemOfL None specs t ([] ++ ((named Name n name' ∷ []) ++ qs))
+  plain_function : (specs : Specifiers) (name' : Identifier) (t : ExternalDeclaration) (qs : List Piece) → FunctionFollowedL most size n left level (words_of None) specs name' t qs → ItemOfL None specs t ([] ++ ((named Name n name' ∷ []) ++ qs))
   unfolding wants_of_pointer
   plain_function specs name' t qs b = in_both (PointerAt n) (NamedItemL None specs) t [] ((named Name n name' ∷ []) ++ qs) None (record { grammar = refl; wants = refl }) (in_both _ _ _ _ _ name' (in_single (named Name n) name') (this b))
 
-  static_function : (place : Place) (specs : Specifiers) (name' : Identifier) (t : ExternalDeclaration) (qs : List Piece) → FunctionBehindL most size n left level (words_of (Some place)) specs name' t qs → ItemOfL (Some place) specs t ([] ++ ((named Name n name' ∷ []) ++ qs))
+  static_function : (place : Place) (specs : Specifiers) (name' : Identifier) (t : ExternalDeclaration) (qs : List Piece) → FunctionFollowedL most size n left level (words_of (Some place)) specs name' t qs → ItemOfL (Some place) specs t ([] ++ ((named Name n name' ∷ []) ++ qs))
   unfolding wants_of_pointer
   static_function place specs name' t qs b = in_both (PointerAt n) (NamedItemL (Some place) specs) t [] ((named Name n name' ∷ []) ++ qs) None (record { grammar = refl; wants = refl }) (in_both _ _ _ _ _ name' (in_single (named Name n) name') (this b))
 
@@ -473,7 +473,7 @@ module _ (most size n left : ℕ) (level : n + left ≡ most + 1) (positive : 0 
   unfolding wants_of_words wants_of_static words_at
   fixed_function place [] specs name' parameters body ps is =
       let h = function_from most size n left level (FunctionSpecifiers_ [] (StaticSpecifier_ place [])) specs name' parameters body ps is in
-      of_static place _ ps _ (that (in_both _ _ _ _ _ specs h.specs_ (static_function place specs name' _ h.behind h.rest))) h.whole
+      of_static place _ ps _ (that (in_both _ _ _ _ _ specs h.specs_ (static_function place specs name' _ h.following h.rest))) h.whole
   fixed_function place (first ∷ rest) specs name' parameters body ps is =
       let h = function_from most size n left level (FunctionSpecifiers_ [] (StaticSpecifier_ place (first ∷ rest))) specs name' parameters body ps is in
       of_static place _ ps _
@@ -485,7 +485,7 @@ module _ (most size n left : ℕ) (level : n + left ≡ most + 1) (positive : 0 
   unfolding wants_of_words wants_of_static words_at
   function_back [] None specs name' parameters body ps is =
       let h = function_from most size n left level (FunctionSpecifiers_ [] None) specs name' parameters body ps is in
-      of_plain specs _ ps (wants_of_specs specs n) _ h.specs_ (plain_function specs name' _ h.behind h.rest) h.whole
+      of_plain specs _ ps (wants_of_specs specs n) _ h.specs_ (plain_function specs name' _ h.following h.rest) h.whole
   function_back [] (Some s) specs name' parameters body ps is = fixed_function s.place s.inline specs name' parameters body ps is
   function_back (first ∷ rest) fixed specs name' parameters body ps is =
       let h = function_from most size n left level (FunctionSpecifiers_ (first ∷ rest) fixed) specs name' parameters body ps is in
@@ -497,7 +497,7 @@ module _ (most size n left : ℕ) (level : n + left ≡ most + 1) (positive : 0 
         left = in_single (spelt_at Word (codes "inline") n) first;
         right = in_both (InlinesAt n) _ _ (words_at rest (codes "inline") n) _ rest (record { wants = refl })
             (in_both (FixedAt n) _ _ (wants_of_static fixed n) _ fixed (record { wants = refl }) (in_both _ _ _ _ _ specs h.specs_ (in_both _ _ _ _ _ name' (in_single (named Name n) name') h.rest)));
-        whole = h.whole ∙ flat (spelt_at Word (codes "inline") n first ∷ []) (words_at rest (codes "inline") n) (wants_of_static fixed n) (wants_of_specs specs n ++ ((named Name n name' ∷ []) ++ h.behind));
+        whole = h.whole ∙ flat (spelt_at Word (codes "inline") n first ∷ []) (words_at rest (codes "inline") n) (wants_of_static fixed n) (wants_of_specs specs n ++ ((named Name n name' ∷ []) ++ h.following));
       }))
 
   -- ---- all items

@@ -1,21 +1,11 @@
-pub mod Blocking
-pub mod ByTree
-pub mod Conditions
-pub mod Ends
-pub mod First
-pub mod Fors
-pub mod Heads
-pub mod Ifs
-pub mod Itemising
-pub mod Leading
+-- the readers read their productions
 pub mod Optionals
-pub mod Parsing
+pub mod Heads
+pub mod Itemising
 pub mod Programming
-pub mod Reading
-pub mod Singles
+-- they answer alike for all numbers of tokens, and what the code needs of them
 pub mod Sizing
-pub mod Stating
-pub mod Steps
-pub mod Switches
-pub mod Whiles
-pub mod Within
+pub mod Reading
+-- what they answer, in terms of the programs that begin with some tokens
+pub mod First
+pub mod Parsing

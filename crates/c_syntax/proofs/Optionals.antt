@@ -17,10 +17,10 @@ use Rattle.c_reader.proofs.Binding.{fits_part}
 use Rattle.c_reader.proofs.Choosing.{FirstIs}
 use Rattle.c_reader.proofs.Listing.{separated_rest}
 use Rattle.c_reader.proofs.Spelt.{by_text}
-use Rattle.c_decl.proofs.Declaring.{wants_behind}
-use Rattle.c_decl.proofs.Declarations.{wants_behind_first}
+use Rattle.c_decl.proofs.Declaring.{wants_following}
+use Rattle.c_decl.proofs.Declarations.{wants_following_first}
 
--- the first token of the pieces, or the one behind them where there are none
+-- the first token of the pieces, or the one after them where there are none
 abbrev pub Opens : (TokenKind → List ℕ → Bool) → Bool → List Piece → Type 0
 Opens by b ps = (ys rest : List Token) → Fits ps ys → FirstIs (λ w. by w.kind w.text) b rest → FirstIs (λ w. by w.kind w.text) b (ys ++ rest)
 
@@ -42,7 +42,7 @@ module _ (by : TokenKind → List ℕ → Bool) (b : Bool) where
   pub opens_append : (ps qs : List Piece) → Opens by b ps → Opens by b qs → Opens by b (ps ++ qs)
   opens_append ps qs P Q ys rest fits h =
       let parted = fits_part ps qs ys fits in
-      subst (λ u. FirstIs (λ w. by w.kind w.text) b u) (sym (ap (λ u. u ++ rest) parted.whole ∙ append_assoc parted.front parted.behind rest)) (P parted.front (parted.behind ++ rest) parted.left (Q parted.behind rest parted.right h))
+      subst (λ u. FirstIs (λ w. by w.kind w.text) b u) (sym (ap (λ u. u ++ rest) parted.whole ∙ append_assoc parted.front parted.following rest)) (P parted.front (parted.following ++ rest) parted.left (Q parted.following rest parted.right h))
 
   module _ (n : ℕ) (bracket : by Mark (codes "[") ≡ b) where
     dimension_opens : (d : Dimension) (ps : List Piece) → Opens by b (wants_of_dimension d n ++ ps)
@@ -65,6 +65,6 @@ module _ (by : TokenKind → List ℕ → Bool) (b : Bool) where
       rest_opens [] = opens_none
       rest_opens (d ∷ ds) = opens_spelled n None Mark (codes ",") _ comma
 
-      -- what stands behind the first declared name of objects
-      pub behind_opens : (first : InitDeclarator) (rest : List InitDeclarator) → Opens by b (wants_behind_first first rest n)
-      behind_opens first rest = opens_append (wants_behind first n) (separated_rest is_declarator wants_of_declarator n (codes ",") rest) (opens_append _ _ (dimensions_open first.dimensions) (start_opens first.start)) (rest_opens rest)
+      -- what stands after the first declared name of objects
+      pub following_opens : (first : InitDeclarator) (rest : List InitDeclarator) → Opens by b (wants_following_first first rest n)
+      following_opens first rest = opens_append (wants_following first n) (separated_rest is_declarator wants_of_declarator n (codes ",") rest) (opens_append _ _ (dimensions_open first.dimensions) (start_opens first.start)) (rest_opens rest)

@@ -1,13 +1,13 @@
 -- The reader of programs up to the end of the text.
-use Rattle.std.proofs.Common.{◌≡◌, ◌<◌, ℕ, ◌+◌, true, false, List, [], ◌∷◌, ◌++◌, Some, refl, sym, ap, ◌∙◌, subst, arith}
-use Rattle.c_tree.specs.Pieces.{Piece, Takes, IsWanted, StandsAt, spelled}
+use Rattle.std.proofs.Common.{◌≡◌, ◌<◌, ℕ, ◌+◌, true, false, List, [], ◌∷◌, ◌++◌, refl, sym, ap, ◌∙◌, subst, arith}
+use Rattle.c_tree.specs.Pieces.{Piece, Takes, IsWanted, StandsAt}
 use Rattle.c_tree.specs.Programs.{wants_of_item, wants_of_program, is_item, is_program, ProgramTree}
 use Rattle.c_tree.specs.declared.token.Token.{Token}
 use Rattle.c_tree.specs.declared.expressions.Identifier.{Identifier}
 use Rattle.c_tree.specs.declared.token.TokenKind.TheVariants.{End}
 use Rattle.c_reader.specs.Reading.{many}
 use Rattle.c_reader.specs.Tokens.{named_of, is_kind, spelled_by, found_by, found_in}
-use Rattle.c_expr.specs.Tokens.{type_by}
+use Rattle.c_grammar.specs.Tokens.{type_by}
 use Rattle.c_reader.proofs.Reader.{Language, Reads}
 use Rattle.c_reader.proofs.Binding.{Both}
 use Rattle.c_reader.proofs.Giving.{Given}
@@ -18,15 +18,15 @@ use Rattle.c_reader.proofs.Joining.{in_both, in_single, in_given, onto}
 use Rattle.c_reader.proofs.Listing.{all_to, all_from}
 use Rattle.c_reader.proofs.Spelt.{kind_is, kind_yes}
 use Rattle.c_reader.proofs.Beginning.{Begins, begins_both, begins_single}
-use Rattle.c_expr.proofs.Suffixes.{Any}
+use Rattle.c_grammar.proofs.Suffixes.{Any}
 use Rattle.c_syntax.specs.Items.{read_item, read_end, read_program}
 use Rattle.c_syntax.specs.Programs.{end_piece, ProgramAt}
-use Rattle.c_syntax.specs.Starts.{starts_item, item_by}
-use Rattle.c_syntax.proofs.ByTree.{by_reads, reads_by, by_as}
+use Rattle.c_statement.specs.Starts.{starts_item, item_by}
+use Rattle.c_statement.proofs.ByTree.{by_reads, reads_by, by_as}
 use Rattle.c_syntax.proofs.Itemising.{ItemAt, item_step, begins_item, item_some}
-use Rattle.c_syntax.proofs.Singles.{Always}
-use Rattle.c_syntax.proofs.Steps.{Step, Anything, then_, given, token_then}
-use Rattle.c_syntax.proofs.Switches.{some_several}
+use Rattle.c_statement.proofs.Singles.{Always}
+use Rattle.c_statement.proofs.Steps.{Step, Anything, then_, given, token_then}
+use Rattle.c_statement.proofs.Switches.{some_several}
 
 module _ (most size left : ℕ) (level : 0 + left ≡ most + 1) where
   has_level : 0 < left

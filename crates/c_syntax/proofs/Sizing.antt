@@ -1,26 +1,20 @@
--- The readers of statements, items and programs answer alike for all numbers of tokens that a list may have, as long as it has no more.
-use Rattle.std.proofs.Common.{◌≤◌, ℕ, zero, suc, Bool, List, Option, Some, None, codes}
+-- The readers of external declarations and programs answer alike for all numbers of tokens that a list may have, as long as it has no more.
+use Rattle.std.proofs.Common.{◌≤◌, ℕ, Bool, Option, Some, None}
 use Rattle.c_tree.specs.declared.token.Place.{Place}
 use Rattle.c_tree.specs.declared.token.Token.{Token}
-use Rattle.c_tree.specs.declared.expressions.Expr.{Expr}
 use Rattle.c_tree.specs.declared.expressions.Identifier.{Identifier}
 use Rattle.c_tree.specs.declared.expressions.Specifiers.{Specifiers}
 use Rattle.c_tree.specs.declared.expressions.TagSpecifier.{TagSpecifier}
-use Rattle.c_tree.specs.declared.statements.LoopBound.{LoopBound}
 use Rattle.c_tree.specs.declared.statements.Pointer.{Pointer}
-use Rattle.c_tree.specs.declared.statements.Statement.{Statement}
 use Rattle.c_tree.specs.declared.programs.FunctionSpecifiers.{FunctionSpecifiers}
-use Rattle.c_reader.specs.Reading.{Reader, take_as}
-use Rattle.c_expr.specs.Levels.{readers_at}
-use Rattle.c_reader.proofs.Shrinking.{Like, like_give, like_deep, like_take, then_some, then_any, then_last, like_any, like_choose}
-use Rattle.c_expr.proofs.Sizing.{many_like, all_like}
+use Rattle.c_reader.specs.Reading.{take_as}
+use Rattle.c_grammar.specs.Levels.{readers_at}
+use Rattle.c_reader.proofs.Shrinking.{Like, like_give, like_take, then_some, then_any, like_any, like_choose}
+use Rattle.c_grammar.proofs.Sizing.{many_like, all_like}
 use Rattle.c_decl.specs.Bare.{tag_of}
-use Rattle.c_decl.proofs.Sizing.{simple_like, pointer_like, bounds_like, objects_like, objects_of_like, objects_behind_like, parameters_like}
-use Rattle.c_syntax.specs.Statements.{read_empty, read_simple_statement, read_break, read_continue, read_unless, read_return, read_condition, read_else, read_otherwise, read_if, read_case, read_default, read_label, read_section, read_switch}
-use Rattle.c_syntax.specs.Loops.{read_bound, read_while, read_do, read_first, read_step, read_for, read_loop_behind, read_loop}
-use Rattle.c_syntax.specs.Blocks.{read_part_objects, read_part_tag, read_part_behind, read_declaration, read_part, read_braces, read_statement_by}
-use Rattle.c_syntax.specs.Levels.{read_statement, read_block}
-use Rattle.c_syntax.specs.Items.{read_typedef, read_function_behind, read_function_of, read_inlines, read_fixed, read_inlined, read_item_objects, read_item_behind, read_item_of, read_static_inlined, read_static, read_item_tag, read_plain_behind, read_plain, read_item, read_end, read_program}
+use Rattle.c_decl.proofs.Sizing.{pointer_like, bounds_like, objects_following_like, parameters_like}
+use Rattle.c_syntax.specs.Items.{read_typedef, read_ended_dimensions, read_function_after, read_head, read_function_of, read_inlines, read_fixed, read_inlined, read_item_objects, read_item_after, read_item_of, read_static_inlined, read_static, read_item_tag, read_plain_after, read_plain, read_item, read_end, read_program}
+use Rattle.c_statement.proofs.Sizing.{block_like}
 
 module _ (k s t : ℕ) (enough : k ≤ s) (also : k ≤ t) where
   take : {A : Type 0} (test : Token → Bool) (value : Token → A) (left : ℕ) → Like k 1 (take_as test value left) (take_as test value left)
@@ -35,172 +29,23 @@ module _ (k s t : ℕ) (enough : k ≤ s) (also : k ≤ t) where
   marked : {A : Type 0} (test : Token → Bool) (value : Token → A) (left : ℕ) → Like k 0 (take_as test value left) (take_as test value left)
   marked test value left = like_any k _ _ (take test value left)
 
-  -- ---- statements
-
-  empty_like : (left : ℕ) → Like k 1 (read_empty left) (read_empty left)
-  unfolding read_empty
-  empty_like left = then_some k _ _ _ _ (take _ _ left) (λ place. like_give k _)
-
-  simple_statement_like : (left : ℕ) → Like k 1 (read_simple_statement s left) (read_simple_statement t left)
-  unfolding read_simple_statement
-  simple_statement_like left = then_some k _ _ _ _ (simple_like k s t enough also left) (λ value. then_any k _ _ _ _ (marked _ _ left) (λ closing. like_give k _))
-
-  break_like : (left : ℕ) → Like k 1 (read_break left) (read_break left)
-  unfolding read_break
-  break_like left = then_some k _ _ _ _ (take _ _ left) (λ place. then_any k _ _ _ _ (marked _ _ left) (λ closing. like_give k _))
-
-  continue_like : (left : ℕ) → Like k 1 (read_continue left) (read_continue left)
-  unfolding read_continue
-  continue_like left = then_some k _ _ _ _ (take _ _ left) (λ place. then_any k _ _ _ _ (marked _ _ left) (λ closing. like_give k _))
-
-  unless_like : (text : List ℕ) (left : ℕ) → Like k 0 (read_unless text s left) (read_unless text t left)
-  unfolding read_unless
-  unless_like text left = like_choose k 0 _ _ _ _ _ (like_give k None) (then_any k _ _ _ _ (expr_any left) (λ value. like_give k _))
-
-  return_like : (left : ℕ) → Like k 1 (read_return s left) (read_return t left)
-  unfolding read_return
-  return_like left = then_some k _ _ _ _ (take _ _ left) (λ place. then_any k _ _ _ _ (unless_like (codes ";") left) (λ value. then_any k _ _ _ _ (marked _ _ left) (λ closing. like_give k _)))
-
-  condition_like : (left : ℕ) → Like k 1 (read_condition s left) (read_condition t left)
-  unfolding read_condition
-  condition_like left = then_some k _ _ _ _ (take _ _ left) (λ opening. then_any k _ _ _ _ (expr_any left) (λ value. then_any k _ _ _ _ (marked _ _ left) (λ closing. like_give k _)))
-
-  case_like : (left : ℕ) → Like k 1 (read_case s left) (read_case t left)
-  unfolding read_case
-  case_like left = then_some k _ _ _ _ (take _ _ left) (λ place. then_any k _ _ _ _ (expr_any left) (λ value. then_any k _ _ _ _ (marked _ _ left) (λ colon. like_give k _)))
-
-  default_like : (left : ℕ) → Like k 1 (read_default left) (read_default left)
-  unfolding read_default
-  default_like left = then_some k _ _ _ _ (take _ _ left) (λ place. then_any k _ _ _ _ (marked _ _ left) (λ colon. like_give k _))
-
-  label_like : (left : ℕ) → Like k 1 (read_label s left) (read_label t left)
-  unfolding read_label
-  label_like left = like_choose k 1 _ _ _ _ _ (case_like left) (default_like left)
-
-  bound_like : (left : ℕ) → Like k 0 (read_bound left) (read_bound left)
-  unfolding read_bound
-  bound_like left = like_choose k 0 _ _ _ _ _ (then_any k _ _ _ _ (marked _ _ left) (λ bound. like_give k _)) (like_give k None)
-
-  first_like : (left : ℕ) → Like k 0 (read_first s left) (read_first t left)
-  unfolding read_first
-  first_like left =
-      like_choose k 0 _ _ _ _ _ (like_give k _)
-      (like_choose k 0 _ _ _ _ _ (then_any k _ _ _ _ (like_any k _ _ (objects_like k s t enough also left)) (λ objects. like_give k _)) (then_any k _ _ _ _ (like_any k _ _ (simple_like k s t enough also left)) (λ value. like_give k _)))
-
-  step_like : (left : ℕ) → Like k 0 (read_step s left) (read_step t left)
-  unfolding read_step
-  step_like left = like_choose k 0 _ _ _ _ _ (like_give k None) (then_any k _ _ _ _ (like_any k _ _ (simple_like k s t enough also left)) (λ value. like_give k _))
-
-  part_objects_like : (left : ℕ) (specs : Specifiers) → Like k 0 (read_part_objects s left specs) (read_part_objects t left specs)
-  unfolding read_part_objects
-  part_objects_like left specs = then_any k _ _ _ _ (like_any k _ _ (objects_of_like k s t enough also left specs)) (λ objects. then_any k _ _ _ _ (marked _ _ left) (λ closing. like_give k _))
-
-  part_behind_like : (left : ℕ) (specs : Specifiers) (tag : Option TagSpecifier) → Like k 0 (read_part_behind s left specs tag) (read_part_behind t left specs tag)
-  unfolding read_part_behind read_part_tag
-  part_behind_like left specs None = part_objects_like left specs
-  part_behind_like left specs (Some tag) = like_choose k 0 _ _ _ _ _ (then_any k _ _ _ _ (marked _ _ left) (λ closing. like_give k _)) (part_objects_like left specs)
-
-  declaration_like : (left : ℕ) → Like k 1 (read_declaration s left) (read_declaration t left)
-  unfolding read_declaration
-  declaration_like left = then_some k _ _ _ _ (specs_some left) (λ specs. part_behind_like left specs (tag_of specs))
-
-  module _ (left : ℕ) (f f' : Reader Statement) (F : Like k 1 f f') where
-    otherwise_like : (place : Place) (condition : Expr) (then : Statement) → Like k 0 (read_otherwise left f place condition then) (read_otherwise left f' place condition then)
-    unfolding read_otherwise read_else
-    otherwise_like place condition then = like_choose k 0 _ _ _ _ _ (then_any k _ _ _ _ (marked _ _ left) (λ word. then_any k _ _ _ _ (like_any k _ _ F) (λ otherwise. like_give k _))) (like_give k _)
-
-    if_like : Like k 1 (read_if s left f) (read_if t left f')
-    unfolding read_if
-    if_like = then_some k _ _ _ _ (take _ _ left) (λ place. then_any k _ _ _ _ (like_any k _ _ (condition_like left)) (λ condition. then_any k _ _ _ _ (like_any k _ _ F) (λ then. otherwise_like place condition then)))
-
-    section_like : Like k 1 (read_section s left f) (read_section t left f')
-    unfolding read_section
-    section_like =
-        then_some k _ _ _ _ (label_like left)
-        (λ first. then_any k _ _ _ _ (many_like k s t enough also _ _ _ (label_like left)) (λ labels. then_any k _ _ _ _ (like_any k _ _ F) (λ statement. then_any k _ _ _ _ (many_like k s t enough also _ _ _ F) (λ statements. like_give k _))))
-
-    switch_like : Like k 1 (read_switch s left f) (read_switch t left f')
-    unfolding read_switch
-    switch_like =
-        then_some k _ _ _ _ (take _ _ left)
-        (λ place. then_any k _ _ _ _ (like_any k _ _ (condition_like left))
-        (λ value. then_any k _ _ _ _ (marked _ _ left) (λ opening. then_any k _ _ _ _ (many_like k s t enough also _ _ _ section_like) (λ sections. then_any k _ _ _ _ (marked _ _ left) (λ closing. like_give k _)))))
-
-    while_like : (bound : Option LoopBound) → Like k 1 (read_while s left f bound) (read_while t left f' bound)
-    unfolding read_while
-    while_like bound = then_some k _ _ _ _ (take _ _ left) (λ place. then_any k _ _ _ _ (like_any k _ _ (condition_like left)) (λ condition. then_any k _ _ _ _ (like_any k _ _ F) (λ body. like_give k _)))
-
-    do_like : (bound : Option LoopBound) → Like k 1 (read_do s left f bound) (read_do t left f' bound)
-    unfolding read_do
-    do_like bound =
-        then_some k _ _ _ _ (take _ _ left)
-        (λ place. then_any k _ _ _ _ (like_any k _ _ F) (λ body. then_any k _ _ _ _ (marked _ _ left) (λ word. then_any k _ _ _ _ (like_any k _ _ (condition_like left)) (λ condition. then_any k _ _ _ _ (marked _ _ left) (λ closing. like_give k _)))))
-
-    for_like : (bound : Option LoopBound) → Like k 1 (read_for s left f bound) (read_for t left f' bound)
-    unfolding read_for
-    for_like bound =
-        then_some k _ _ _ _ (take _ _ left)
-        (λ place. then_any k _ _ _ _ (marked _ _ left)
-        (λ opening. then_any k _ _ _ _ (first_like left)
-        (λ initial. then_any k _ _ _ _ (marked _ _ left)
-        (λ second. then_any k _ _ _ _ (unless_like (codes ";") left)
-        (λ condition. then_any k _ _ _ _ (marked _ _ left)
-        (λ third. then_any k _ _ _ _ (step_like left)
-        (λ step. then_any k _ _ _ _ (marked _ _ left) (λ closing. then_any k _ _ _ _ (like_any k _ _ F) (λ body. like_give k _)))))))))
-
-    loop_behind_like : (bound : Option LoopBound) → Like k 1 (read_loop_behind s left f bound) (read_loop_behind t left f' bound)
-    unfolding read_loop_behind
-    loop_behind_like bound = like_choose k 1 _ _ _ _ _ (while_like bound) (like_choose k 1 _ _ _ _ _ (do_like bound) (for_like bound))
-
-    loop_like : Like k 1 (read_loop s left f) (read_loop t left f')
-    unfolding read_loop
-    loop_like = then_last k _ _ _ _ (bound_like left) loop_behind_like
-
-    part_like : Like k 1 (read_part s left f) (read_part t left f')
-    unfolding read_part
-    part_like = like_choose k 1 _ _ _ _ _ (declaration_like left) (then_some k _ _ _ _ F (λ value. like_give k _))
-
-    braces_like : Like k 1 (read_braces s left f) (read_braces t left f')
-    unfolding read_braces
-    braces_like = then_some k _ _ _ _ (take _ _ left) (λ place. then_any k _ _ _ _ (many_like k s t enough also _ _ _ part_like) (λ parts. then_any k _ _ _ _ (marked _ _ left) (λ closing. like_give k _)))
-
-    statement_by_like : Like k 1 (read_statement_by s left f) (read_statement_by t left f')
-    unfolding read_statement_by
-    statement_by_like =
-        like_choose k 1 _ _ _ _ _ (then_some k _ _ _ _ braces_like (λ block. like_give k _))
-        (like_choose k 1 _ _ _ _ _ (empty_like left)
-        (like_choose k 1 _ _ _ _ _ (break_like left)
-        (like_choose k 1 _ _ _ _ _ (continue_like left)
-        (like_choose k 1 _ _ _ _ _ (return_like left)
-        (like_choose k 1 _ _ _ _ _ if_like (like_choose k 1 _ _ _ _ _ switch_like (like_choose k 1 _ _ _ _ _ loop_like (simple_statement_like left))))))))
-
-  statement_like : (left : ℕ) → Like k 1 (read_statement s left) (read_statement t left)
-  unfolding read_statement
-  statement_like zero = like_deep k 1
-  statement_like (suc left) = statement_by_like left _ _ (statement_like left)
-
-  block_like : (left : ℕ) → Like k 1 (read_block s left) (read_block t left)
-  unfolding read_block
-  block_like zero = like_deep k 1
-  block_like (suc left) = braces_like left _ _ (statement_like left)
-
   -- ---- items
 
   typedef_like : (left : ℕ) → Like k 1 (read_typedef s left) (read_typedef t left)
-  unfolding read_typedef
+  unfolding read_typedef read_ended_dimensions
   typedef_like left =
       then_some k _ _ _ _ (take _ _ left)
       (λ place. then_any k _ _ _ _ (like_any k _ _ (specs_some left)) (λ specs. then_any k _ _ _ _ (marked _ _ left) (λ name. then_any k _ _ _ _ (bounds_like k s t enough also left) (λ dimensions. then_any k _ _ _ _ (marked _ _ left) (λ closing. like_give k _)))))
 
-  function_behind_like : (left : ℕ) (words : FunctionSpecifiers) (specs : Specifiers) (name : Identifier) → Like k 1 (read_function_behind s left words specs name) (read_function_behind t left words specs name)
-  unfolding read_function_behind
-  function_behind_like left words specs name =
+  function_following_like : (left : ℕ) (words : FunctionSpecifiers) (specs : Specifiers) (name : Identifier) → Like k 1 (read_function_after s left words specs name) (read_function_after t left words specs name)
+  unfolding read_function_after read_head
+  function_following_like left words specs name =
       then_some k _ _ _ _ (take _ _ left)
-      (λ opening. then_any k _ _ _ _ (parameters_like k s t enough also left) (λ parameters. then_any k _ _ _ _ (marked _ _ left) (λ closing. then_any k _ _ _ _ (like_any k _ _ (block_like left)) (λ body. like_give k _))))
+      (λ opening. then_any k _ _ _ _ (parameters_like k s t enough also left) (λ parameters. then_any k _ _ _ _ (marked _ _ left) (λ closing. then_any k _ _ _ _ (like_any k _ _ (block_like k s t enough also left)) (λ body. like_give k _))))
 
   function_of_like : (left : ℕ) (words : FunctionSpecifiers) → Like k 1 (read_function_of s left words) (read_function_of t left words)
   unfolding read_function_of
-  function_of_like left words = then_some k _ _ _ _ (specs_some left) (λ specs. then_any k _ _ _ _ (marked _ _ left) (λ name. like_any k _ _ (function_behind_like left words specs name)))
+  function_of_like left words = then_some k _ _ _ _ (specs_some left) (λ specs. then_any k _ _ _ _ (marked _ _ left) (λ name. like_any k _ _ (function_following_like left words specs name)))
 
   inlines_like : (left : ℕ) → Like k 0 (read_inlines s left) (read_inlines t left)
   unfolding read_inlines
@@ -218,16 +63,16 @@ module _ (k s t : ℕ) (enough : k ≤ s) (also : k ≤ t) where
 
   item_objects_like : (left : ℕ) (fixed : Option Place) (specs : Specifiers) (pointer : Option Pointer) (name : Identifier) → Like k 0 (read_item_objects s left fixed specs pointer name) (read_item_objects t left fixed specs pointer name)
   unfolding read_item_objects
-  item_objects_like left fixed specs pointer name = then_any k _ _ _ _ (objects_behind_like k s t enough also left specs pointer name) (λ objects. then_any k _ _ _ _ (marked _ _ left) (λ closing. like_give k _))
+  item_objects_like left fixed specs pointer name = then_any k _ _ _ _ (objects_following_like k s t enough also left specs pointer name) (λ objects. then_any k _ _ _ _ (marked _ _ left) (λ closing. like_give k _))
 
-  item_behind_like : (left : ℕ) (fixed : Option Place) (specs : Specifiers) (pointer : Option Pointer) (name : Identifier) → Like k 0 (read_item_behind s left fixed specs pointer name) (read_item_behind t left fixed specs pointer name)
-  unfolding read_item_behind
-  item_behind_like left fixed specs None name = like_choose k 0 _ _ _ _ _ (like_any k _ _ (function_behind_like left _ specs name)) (item_objects_like left fixed specs None name)
-  item_behind_like left fixed specs (Some pointer) name = item_objects_like left fixed specs (Some pointer) name
+  item_following_like : (left : ℕ) (fixed : Option Place) (specs : Specifiers) (pointer : Option Pointer) (name : Identifier) → Like k 0 (read_item_after s left fixed specs pointer name) (read_item_after t left fixed specs pointer name)
+  unfolding read_item_after
+  item_following_like left fixed specs None name = like_choose k 0 _ _ _ _ _ (like_any k _ _ (function_following_like left _ specs name)) (item_objects_like left fixed specs None name)
+  item_following_like left fixed specs (Some pointer) name = item_objects_like left fixed specs (Some pointer) name
 
   item_of_like : (left : ℕ) (fixed : Option Place) (specs : Specifiers) → Like k 0 (read_item_of s left fixed specs) (read_item_of t left fixed specs)
   unfolding read_item_of
-  item_of_like left fixed specs = then_any k _ _ _ _ (pointer_like k s t enough also left) (λ pointer. then_any k _ _ _ _ (marked _ _ left) (λ name. item_behind_like left fixed specs pointer name))
+  item_of_like left fixed specs = then_any k _ _ _ _ (pointer_like k s t enough also left) (λ pointer. then_any k _ _ _ _ (marked _ _ left) (λ name. item_following_like left fixed specs pointer name))
 
   static_like : (left : ℕ) → Like k 1 (read_static s left) (read_static t left)
   unfolding read_static read_static_inlined
@@ -236,14 +81,14 @@ module _ (k s t : ℕ) (enough : k ≤ s) (also : k ≤ t) where
       (λ place. like_choose k 0 _ _ _ _ _ (then_any k _ _ _ _ (marked _ _ left) (λ first. then_any k _ _ _ _ (inlines_like left) (λ rest. like_any k _ _ (function_of_like left _))))
       (then_any k _ _ _ _ (like_any k _ _ (specs_some left)) (item_of_like left (Some place))))
 
-  plain_behind_like : (left : ℕ) (specs : Specifiers) (tag : Option TagSpecifier) → Like k 0 (read_plain_behind s left specs tag) (read_plain_behind t left specs tag)
-  unfolding read_plain_behind read_item_tag
-  plain_behind_like left specs None = item_of_like left None specs
-  plain_behind_like left specs (Some tag) = like_choose k 0 _ _ _ _ _ (then_any k _ _ _ _ (marked _ _ left) (λ closing. like_give k _)) (item_of_like left None specs)
+  plain_following_like : (left : ℕ) (specs : Specifiers) (tag : Option TagSpecifier) → Like k 0 (read_plain_after s left specs tag) (read_plain_after t left specs tag)
+  unfolding read_plain_after read_item_tag
+  plain_following_like left specs None = item_of_like left None specs
+  plain_following_like left specs (Some tag) = like_choose k 0 _ _ _ _ _ (then_any k _ _ _ _ (marked _ _ left) (λ closing. like_give k _)) (item_of_like left None specs)
 
   plain_like : (left : ℕ) → Like k 1 (read_plain s left) (read_plain t left)
   unfolding read_plain
-  plain_like left = then_some k _ _ _ _ (specs_some left) (λ specs. plain_behind_like left specs (tag_of specs))
+  plain_like left = then_some k _ _ _ _ (specs_some left) (λ specs. plain_following_like left specs (tag_of specs))
 
   item_like : (left : ℕ) → Like k 1 (read_item s left) (read_item t left)
   unfolding read_item

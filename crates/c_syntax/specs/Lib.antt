@@ -1,8 +1,5 @@
-pub mod Blocks
+-- the readers of external declarations and of programs, by the first token at each place
 pub mod Items
-pub mod Levels
-pub mod Loops
-pub mod Outcome
+-- which tokens a program is, and what `parse` says of a list
 pub mod Programs
-pub mod Starts
-pub mod Statements
+pub mod Outcome

@@ -1,6 +1,6 @@
 //! The items of a program (C11 6.9), and programs.
 
-ghost use Rattle.std.specs.Prelude.{◌≡◌, ◌<◌, ◌++◌, None, codes};
+ghost use Rattle.std.specs.Prelude.{◌≡◌, ◌<◌, ◌++◌, None, codes, IfOk};
 ghost use Rattle.c_decl.specs.Bare.{tag_of};
 ghost use Rattle.c_reader.specs.Outcome.{Gives};
 ghost use Rattle.c_reader.specs.Reading as reading;
@@ -8,18 +8,120 @@ ghost use Rattle.c_reader.specs.Reading.{choose, give};
 ghost use Rattle.c_reader.specs.Tokens.{is_word as is_word_of};
 ghost use Rattle.c_syntax.specs.Items as spec;
 ghost use Rattle.c_syntax.specs.Outcome.{Ends};
-ghost use Rattle.c_syntax.specs.Starts as starts;
+ghost use Rattle.c_decl.specs.Declarations.{read_pointer};
+ghost use Rattle.c_grammar.specs.Levels.{readers_at};
+ghost use Rattle.c_reader.specs.Tokens.{read_name};
+ghost use Rattle.c_statement.specs.Levels.{read_block};
+ghost use Rattle.c_statement.specs.Parts.{Carried, CarriedTo};
+ghost use Rattle.c_statement.specs.Starts as starts;
+ghost use Rattle.c_tree.specs.declared.programs.ExternalDeclaration.TheVariants as items;
 
-use crate::nesting::block;
-use crate::starts::starts_item;
 use c_decl::{Rules, bare_tag};
 use c_expr::specs;
-use c_reader::{Cursor, Unread, is_word, many, many_behind, only};
+use c_reader::{Cursor, Unread, is_word, many, many_after, only};
+use c_statement::{block, kept, starts_item};
 use c_tree::{
-    ExternalDeclaration, Function, FunctionSpecifiers, Identifier, Place, Pointer, Specifiers,
-    StaticSpecifier, TagSpecifier, TokenKind,
+    Block, Declaration, Dimension, ExternalDeclaration, Function, FunctionSpecifiers, Identifier,
+    Parameters, Place, Pointer, Specifiers, StaticSpecifier, TagSpecifier, TokenKind,
 };
+use hy_bits::Memory;
 use sqlite_items::{Boxed, Items};
+use std::alloc::Global;
+
+/// A declaration in memory of its own.
+fn declaration_item(
+    alloc: Global,
+    fixed: Option<Place>,
+    objects: Declaration,
+) -> Result<ExternalDeclaration, Memory>
+    ensures { IfOk result (λ item. item ≡ items.Declaration fixed objects) }
+{
+    Ok(ExternalDeclaration::Declaration(fixed, Boxed::new(alloc, objects)?))
+}
+
+/// A tag in memory of its own.
+fn tag_item(alloc: Global, tag: TagSpecifier) -> Result<ExternalDeclaration, Memory>
+    ensures { IfOk result (λ item. item ≡ items.TagSpecifier tag) }
+{
+    Ok(ExternalDeclaration::TagSpecifier(Boxed::new(alloc, tag)?))
+}
+
+/// The specifiers of a type, with `part`, which was read before.
+fn with_specs<T: Drop>(
+    rules: Rules,
+    cursor: &mut Cursor<'_>,
+    part: T,
+) -> Result<(T, Specifiers), Unread>
+    ensures { Carried ((readers_at rules.size rules.left).specs cursor.old) part result cursor.new }
+{
+    let specs = specs(rules.alloc, cursor, rules.size, rules.left)?;
+    Ok((part, specs))
+}
+
+/// A pointer, if there is one, with `part`, which was read before.
+fn with_pointer<T: Drop>(
+    rules: Rules,
+    cursor: &mut Cursor<'_>,
+    part: T,
+) -> Result<(T, Option<Pointer>), Unread>
+    ensures { Carried (read_pointer rules.left cursor.old) part result cursor.new }
+{
+    let pointer = rules.pointer(cursor)?;
+    Ok((part, pointer))
+}
+
+/// A name, with `part`, which was read before.
+fn with_name<T: Drop>(
+    rules: Rules,
+    cursor: &mut Cursor<'_>,
+    part: T,
+) -> Result<(T, Identifier), Unread>
+    ensures { Carried (read_name rules.left cursor.old) part result cursor.new }
+{
+    let name = cursor.name(rules.alloc, rules.left)?;
+    Ok((part, name))
+}
+
+/// A block, with `part`, which was read before.
+fn with_block<T: Drop>(rules: Rules, cursor: &mut Cursor<'_>, part: T) -> Result<(T, Block), Unread>
+    ensures { Carried (read_block rules.size rules.left cursor.old) part result cursor.new }
+{
+    let body = block(rules, cursor)?;
+    Ok((part, body))
+}
+
+/// `dims ";"`, with `part`, which was read before.
+#[tactic(auto, unfolding(crate::specs::Items::read_ended_dimensions))]
+fn ended_dimensions<T: Drop>(
+    rules: Rules,
+    cursor: &mut Cursor<'_>,
+    part: T,
+) -> Result<(T, Items<Dimension>), Unread>
+    ensures { CarriedTo (spec.read_ended_dimensions rules.size rules.left) cursor.old part result cursor.new }
+{
+    let dimensions = rules.bounds(cursor)?;
+    let dimensions = kept(cursor, ";", rules.left, dimensions)?;
+    Ok((part, dimensions))
+}
+
+/// A `typedef` at its place.
+fn typedef_of(
+    alloc: Global,
+    place: Place,
+    specs: Specifiers,
+    name: Identifier,
+    dimensions: Items<Dimension>,
+) -> Result<ExternalDeclaration, Memory>
+    ensures { IfOk result (λ item. item ≡ items.Typedef place specs name dimensions) }
+{
+    let specs = Boxed::new(alloc, specs)?;
+    Ok(ExternalDeclaration::Typedef {
+        place,
+        specs,
+        name,
+        dimensions,
+    })
+}
 
 /// `"typedef" specs NAME dims ";"`
 #[tactic(auto, unfolding(crate::specs::Items::read_typedef))]
@@ -28,32 +130,43 @@ fn typedef(rules: Rules, cursor: &mut Cursor<'_>) -> Result<ExternalDeclaration,
 {
     let place = cursor.word_at("typedef", rules.left)?;
     let specs = specs(rules.alloc, cursor, rules.size, rules.left)?;
-    let name = cursor.name(rules.alloc, rules.left)?;
-    let dimensions = rules.bounds(cursor)?;
-    cursor.mark(";", rules.left)?;
-    Ok(ExternalDeclaration::Typedef {
-        place,
-        specs: Boxed::new(rules.alloc, specs)?,
-        name,
-        dimensions,
-    })
+    let (specs, name) = with_name(rules, cursor, specs)?;
+    let ((specs, name), dimensions) = ended_dimensions(rules, cursor, (specs, name))?;
+    Ok(typedef_of(rules.alloc, place, specs, name, dimensions)?)
 }
 
-/// `"(" ["void" | param ("," param)*] ")" block`, behind the name of a function.
-#[tactic(auto, unfolding(crate::specs::Items::read_function_behind))]
-fn function_behind(
+/// `"(" ["void" | param ("," param)*] ")"`, with `part`, which was read before.
+#[tactic(auto, unfolding(crate::specs::Items::read_head))]
+fn head<T: Drop>(rules: Rules, cursor: &mut Cursor<'_>, part: T) -> Result<(T, Parameters), Unread>
+    ensures { CarriedTo (spec.read_head rules.size rules.left) cursor.old part result cursor.new }
+{
+    cursor.mark("(", rules.left)?;
+    let parameters = rules.parameters(cursor)?;
+    let parameters = kept(cursor, ")", rules.left, parameters)?;
+    Ok((part, parameters))
+}
+
+/// A function definition in memory of its own.
+fn function_item(alloc: Global, function: Function) -> Result<ExternalDeclaration, Memory>
+    ensures { IfOk result (λ item. item ≡ items.Function function) }
+{
+    Ok(ExternalDeclaration::Function(Boxed::new(alloc, function)?))
+}
+
+/// `"(" ["void" | param ("," param)*] ")" block`, after the name of a function.
+#[tactic(auto, unfolding(crate::specs::Items::read_function_after))]
+fn function_after(
     rules: Rules,
     cursor: &mut Cursor<'_>,
     words: FunctionSpecifiers,
     specs: Specifiers,
     name: Identifier,
 ) -> Result<ExternalDeclaration, Unread>
-    ensures { Gives (spec.read_function_behind rules.size rules.left words specs name cursor.old) result cursor.new }
+    ensures { Gives (spec.read_function_after rules.size rules.left words specs name cursor.old) result cursor.new }
 {
-    cursor.mark("(", rules.left)?;
-    let parameters = rules.parameters(cursor)?;
-    cursor.mark(")", rules.left)?;
-    let body = block(rules, cursor)?;
+    let (parts, parameters) = head(rules, cursor, (words, specs, name))?;
+    let ((parts, parameters), body) = with_block(rules, cursor, (parts, parameters))?;
+    let (words, specs, name) = parts;
     let function = Function {
         words,
         specs,
@@ -61,10 +174,10 @@ fn function_behind(
         parameters,
         body,
     };
-    Ok(ExternalDeclaration::Function(Boxed::new(rules.alloc, function)?))
+    Ok(function_item(rules.alloc, function)?)
 }
 
-/// `specs NAME` and what stands behind the name of a function.
+/// `specs NAME` and what stands after the name of a function.
 #[tactic(auto, unfolding(crate::specs::Items::read_function_of))]
 fn function_of(
     rules: Rules,
@@ -73,9 +186,9 @@ fn function_of(
 ) -> Result<ExternalDeclaration, Unread>
     ensures { Gives (spec.read_function_of rules.size rules.left words cursor.old) result cursor.new }
 {
-    let specs = specs(rules.alloc, cursor, rules.size, rules.left)?;
-    let name = cursor.name(rules.alloc, rules.left)?;
-    function_behind(rules, cursor, words, specs, name)
+    let (words, specs) = with_specs(rules, cursor, words)?;
+    let ((words, specs), name) = with_name(rules, cursor, (words, specs))?;
+    function_after(rules, cursor, words, specs, name)
 }
 
 /// `"inline"*`
@@ -92,7 +205,7 @@ fn inlines(rules: Rules, cursor: &mut Cursor<'_>) -> Result<Items<Place>, Unread
     )
 }
 
-/// `"inline"*`, behind the first.
+/// `"inline"*`, after the first.
 fn more_inlines(
     rules: Rules,
     cursor: &mut Cursor<'_>,
@@ -100,7 +213,7 @@ fn more_inlines(
 ) -> Result<Items<Place>, Unread>
     ensures { Gives (reading.after (spec.read_inlines rules.size rules.left cursor.old) (λ rest. reading.give (first ++ rest))) result cursor.new }
 {
-    many_behind(
+    many_after(
         cursor,
         rules.size,
         |token| is_word("inline", token),
@@ -159,9 +272,9 @@ fn words_of(rules: Rules, place: Option<Place>) -> FunctionSpecifiers
     }
 }
 
-/// What stands behind the first declared name, and the semicolon.
+/// What stands after the first declared name, and the semicolon.
 #[tactic(auto, unfolding(crate::specs::Items::read_item_objects))]
-fn objects_behind(
+fn objects_after(
     rules: Rules,
     cursor: &mut Cursor<'_>,
     fixed: Option<Place>,
@@ -171,13 +284,13 @@ fn objects_behind(
 ) -> Result<ExternalDeclaration, Unread>
     ensures { Gives (spec.read_item_objects rules.size rules.left fixed specs pointer name cursor.old) result cursor.new }
 {
-    let objects = rules.objects_behind(cursor, specs, pointer, name)?;
-    cursor.mark(";", rules.left)?;
-    Ok(ExternalDeclaration::Declaration(fixed, Boxed::new(rules.alloc, objects)?))
+    let objects = rules.objects_after(cursor, specs, pointer, name)?;
+    let objects = kept(cursor, ";", rules.left, objects)?;
+    Ok(declaration_item(rules.alloc, fixed, objects)?)
 }
 
-/// What stands behind the first declared name, which is a function's where it is no pointer's and a bracket opens.
-fn item_behind(
+/// What stands after the first declared name, which is a function's where it is no pointer's and a bracket opens.
+fn item_after(
     rules: Rules,
     cursor: &mut Cursor<'_>,
     fixed: Option<Place>,
@@ -185,13 +298,13 @@ fn item_behind(
     pointer: Option<Pointer>,
     name: Identifier,
 ) -> Result<ExternalDeclaration, Unread>
-    ensures { Gives (spec.read_item_behind rules.size rules.left fixed specs pointer name cursor.old) result cursor.new }
+    ensures { Gives (spec.read_item_after rules.size rules.left fixed specs pointer name cursor.old) result cursor.new }
 {
     if pointer.is_some() || !cursor.sees_mark("(") {
-        return objects_behind(rules, cursor, fixed, specs, pointer, name);
+        return objects_after(rules, cursor, fixed, specs, pointer, name);
     }
     let words = words_of(rules, fixed);
-    function_behind(rules, cursor, words, specs, name)
+    function_after(rules, cursor, words, specs, name)
 }
 
 /// Declaration of a type, or a function.
@@ -204,12 +317,12 @@ fn item_of(
 ) -> Result<ExternalDeclaration, Unread>
     ensures { Gives (spec.read_item_of rules.size rules.left fixed specs cursor.old) result cursor.new }
 {
-    let pointer = rules.pointer(cursor)?;
-    let name = cursor.name(rules.alloc, rules.left)?;
-    item_behind(rules, cursor, fixed, specs, pointer, name)
+    let (specs, pointer) = with_pointer(rules, cursor, specs)?;
+    let ((specs, pointer), name) = with_name(rules, cursor, (specs, pointer))?;
+    item_after(rules, cursor, fixed, specs, pointer, name)
 }
 
-/// A function that has `static` at this place and `inline` behind it.
+/// A function that has `static` at this place and `inline` after it.
 #[tactic(auto, unfolding(crate::specs::Items::read_static_inlined))]
 fn static_inlined(
     rules: Rules,
@@ -240,7 +353,7 @@ fn static_item(rules: Rules, cursor: &mut Cursor<'_>) -> Result<ExternalDeclarat
     item_of(rules, cursor, Some(place), specs)
 }
 
-/// `";"`, behind a tag.
+/// `";"`, after a tag.
 #[tactic(auto, unfolding(crate::specs::Items::read_item_tag))]
 fn tag_alone(
     rules: Rules,
@@ -249,17 +362,17 @@ fn tag_alone(
 ) -> Result<ExternalDeclaration, Unread>
     ensures { Gives (spec.read_item_tag rules.left tag cursor.old) result cursor.new }
 {
-    cursor.mark(";", rules.left)?;
-    Ok(ExternalDeclaration::TagSpecifier(Boxed::new(rules.alloc, tag)?))
+    let tag = kept(cursor, ";", rules.left, tag)?;
+    Ok(tag_item(rules.alloc, tag)?)
 }
 
-/// What stands behind the type of an item: objects or a function, or nothing behind a tag.
-fn plain_behind(
+/// What stands after the type of an item: objects or a function, or nothing after a tag.
+fn plain_after(
     rules: Rules,
     cursor: &mut Cursor<'_>,
     specs: Specifiers,
 ) -> Result<ExternalDeclaration, Unread>
-    ensures { Gives (spec.read_plain_behind rules.size rules.left specs (tag_of specs) cursor.old) result cursor.new }
+    ensures { Gives (spec.read_plain_after rules.size rules.left specs (tag_of specs) cursor.old) result cursor.new }
 {
     if !cursor.sees_mark(";") {
         return item_of(rules, cursor, None, specs);
@@ -276,7 +389,7 @@ fn plain(rules: Rules, cursor: &mut Cursor<'_>) -> Result<ExternalDeclaration, U
     ensures { Gives (spec.read_plain rules.size rules.left cursor.old) result cursor.new }
 {
     let specs = specs(rules.alloc, cursor, rules.size, rules.left)?;
-    plain_behind(rules, cursor, specs)
+    plain_after(rules, cursor, specs)
 }
 
 /// An item, by its first token.

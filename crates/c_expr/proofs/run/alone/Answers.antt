@@ -1,6 +1,6 @@
 use Rattle.std.proofs.Common.{◌≡◌, ◌==◌, [], ◌∷◌, ◌++◌, sym, ap, ◌∙◌}
 use Rattle.std.specs.Bool.{then_some}
-use Rattle.c_expr.specs.Levels.{readers_at}
+use Rattle.c_grammar.specs.Levels.{readers_at}
 use Rattle.c_reader.specs.Samples.{end_token}
 use Rattle.c_expr.proofs.Returning.{all_of_good, all_of_bad, all_of_deep}
 use Rattle.c_expr.proofs.run.alone.Goals as goal

@@ -1,5 +1,5 @@
 use Rattle.std.proofs.Common.{◌≡◌, ◌+◌, ◌-◌, ◌++◌, length, refl, subst, arith}
-use Rattle.c_expr.specs.Levels.{readers_at}
+use Rattle.c_grammar.specs.Levels.{readers_at}
 use Rattle.c_reader.specs.Reading.{bad}
 use Rattle.c_expr.specs.Runs.{IsRun}
 use Rattle.c_expr.proofs.Returning.{good_left, bad_left, taken, too_deep, never_too_deep, parts_bad}

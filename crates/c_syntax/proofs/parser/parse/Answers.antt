@@ -1,7 +1,9 @@
-use Rattle.std.proofs.Common.{◌≡◌, ◌<◌, ◌^◌, ◌+◌, true, length, refl, sym, ◌∙◌, subst, arith}
+use Rattle.std.proofs.Common.{rules, ◌≡◌, ◌<◌, ◌^◌, ◌+◌, true, length, refl, sym, ◌∙◌, subst, arith}
 use Rattle.c_tree.specs.TokenLists.{is_closed}
-use Rattle.c_syntax.specs.Outcome.{IsParsed}
-use Rattle.c_syntax.proofs.Parsing.{sound_is, left_within, all_parsed, all_deep, all_same, none_bad, none_deep, before_closed, fault_named}
+use Rattle.c_reader.specs.Samples.{is_taken}
+use Rattle.c_syntax.specs.Items.{read_program}
+use Rattle.c_syntax.specs.Outcome.{Ends, IsParsed}
+use Rattle.c_syntax.proofs.Parsing.{tried, sound_is, left_within, all_parsed, all_deep, all_same, none_bad, none_deep, before_closed, fault_named}
 use Rattle.c_syntax.proofs.parser.parse.Goals as goal
 
 pub overflow_sub-list : goal.overflow_sub-list
@@ -9,8 +11,8 @@ overflow_sub-list c =
     let list = c.as_slice-list.result.now in
     left_within (length list + 2) c.args.tokens.now list c.new-cursor.result c.program.new.cursor c.left.result (omega arith) c.as_slice-list.ensures.tokens.closed c.as_slice-list.ensures.list c.new-cursor.ensures c.left.ensures.count (c.in-Err-Bad.ensures.0 c.in-Err-Bad.field-0-is)
 
-pub fault_behind-requires-clause-closed : goal.fault_behind-requires-clause-closed
-fault_behind-requires-clause-closed c =
+pub fault_after-requires-clause-closed : goal.fault_after-requires-clause-closed
+fault_after-requires-clause-closed c =
     let list = c.as_slice-list.result.now in
     before_closed (length list + 2) c.args.tokens.now list c.new-cursor.result c.program.new.cursor c.left.result (omega arith) c.as_slice-list.ensures.tokens.closed c.as_slice-list.ensures.list c.new-cursor.ensures c.left.ensures.count c.split_at.result.0.now c.split_at.result.1.now c.split_at.ensures.front c.split_at.ensures.back (c.in-Err-Bad.ensures.0 c.in-Err-Bad.field-0-is) c.left.ensures.closed
 
@@ -34,13 +36,14 @@ returns-in-Ok-clause-whole c = λ p s shallow.
     let list = c.as_slice-list.result.now in
     c.new.ensures ∙ all_same (length list + 2) c.args.tokens.now list c.new-cursor.result c.program.new.cursor (length c.program.new.cursor) (omega arith) c.as_slice-list.ensures.tokens.closed c.as_slice-list.ensures.list c.new-cursor.ensures refl p s shallow (record { items = c.in-Ok.items; end = c.in-Ok.end }) _ c.in-Ok.ensures
 
-pub returns-in_ok-fault_behind-in-Err-Bad-clause-fault : goal.returns-in_ok-fault_behind-in-Err-Bad-clause-fault
-returns-in_ok-fault_behind-in-Err-Bad-clause-fault c =
+pub returns-in_ok-fault_after-in-Err-Bad-clause-fault : goal.returns-in_ok-fault_after-in-Err-Bad-clause-fault
+returns-in_ok-fault_after-in-Err-Bad-clause-fault c =
     let list = c.as_slice-list.result.now in
-    fault_named (length list + 2) c.args.tokens.now list c.new-cursor.result c.program.new.cursor c.left.result (omega arith) c.as_slice-list.ensures.tokens.closed c.as_slice-list.ensures.list c.new-cursor.ensures c.left.ensures.count c.split_at.result.0.now c.split_at.result.1.now c.split_at.ensures.front c.split_at.ensures.back (c.in-Err-Bad.ensures.0 c.in-Err-Bad.field-0-is) c.left.ensures.closed c.index-rest-0.result c.index-rest-0.is c.in_ok-fault_behind-in-Err-Bad.field-0 c.in_ok-fault_behind-in-Err-Bad.ensures
+    fault_named (length list + 2) c.args.tokens.now list c.new-cursor.result c.program.new.cursor c.left.result (omega arith) c.as_slice-list.ensures.tokens.closed c.as_slice-list.ensures.list c.new-cursor.ensures c.left.ensures.count c.split_at.result.0.now c.split_at.result.1.now c.split_at.ensures.front c.split_at.ensures.back (c.in-Err-Bad.ensures.0 c.in-Err-Bad.field-0-is) c.left.ensures.closed c.index-rest-0.result c.index-rest-0.is c.in_ok-fault_after-in-Err-Bad.field-0 (c.in_ok-fault_after-in-Err-Bad.ensures (λ ts. is_taken (read_program (length list + 2) 201 ts))
+    (record { tries = λ old new r p. let g : Ends (read_program (length list + 2) 201 old.now) r new.now = search rules in tried _ _ _ g }))
 
-pub returns-in_ok-fault_behind-in-Err-Bad-clause-whole : goal.returns-in_ok-fault_behind-in-Err-Bad-clause-whole
-returns-in_ok-fault_behind-in-Err-Bad-clause-whole c = λ p s shallow.
+pub returns-in_ok-fault_after-in-Err-Bad-clause-whole : goal.returns-in_ok-fault_after-in-Err-Bad-clause-whole
+returns-in_ok-fault_after-in-Err-Bad-clause-whole c = λ p s shallow.
     let list = c.as_slice-list.result.now in
     absurd (none_bad (length list + 2) c.args.tokens.now list c.new-cursor.result c.program.new.cursor (length c.program.new.cursor) (omega arith) c.as_slice-list.ensures.tokens.closed c.as_slice-list.ensures.list c.new-cursor.ensures refl p s shallow (c.in-Err-Bad.ensures.0 c.in-Err-Bad.field-0-is))
 

@@ -1,6 +1,6 @@
 use Rattle.std.proofs.Common.{rules, codes}
 use Rattle.c_reader.specs.Tokens.{is_mark}
-use Rattle.c_expr.specs.Types.{read_dimensions}
+use Rattle.c_grammar.specs.Types.{read_dimensions}
 use Rattle.c_expr.proofs.sizes.Sizes.dimensions.Goals as goal
 
 pub returns : goal.returns

@@ -1,5 +1,0 @@
-use Rattle.std.proofs.Common.{rules}
-use Rattle.c_expr.proofs.grammar.Grammar.some_dimensioned.Goals as goal
-
-pub returns : goal.returns
-returns g c = c.separated_by.ensures _ (record { reads = λ old new r p. search rules })

@@ -1,6 +1,0 @@
-use Rattle.std.proofs.Common.{sym}
-use Rattle.c_reader.proofs.Tokening.{no_level}
-use Rattle.c_expr.proofs.tokens.no_expr.Goals as goal
-
-pub returns : goal.returns
-returns c = no_level _ _ _ _ _ (sym c.sees_expr.ensures) c.without_level.ensures

@@ -1,0 +1,5 @@
+use Rattle.std.proofs.Common.{rules}
+use Rattle.c_expr.proofs.types.TypeRules.some_dimensioned.Goals as goal
+
+pub returns : goal.returns
+returns g c = c.separated_by.ensures _ (record { reads = λ old new r p. search rules })

@@ -1,0 +1,2 @@
+-- chains of operators
+pub mod Chaining

@@ -1,0 +1,2 @@
+-- function values that read what is nested
+pub mod Nested

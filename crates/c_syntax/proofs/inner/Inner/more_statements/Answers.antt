@@ -1,6 +1,0 @@
-use Rattle.std.proofs.Common.{rules}
-use Rattle.c_syntax.specs.Starts.{starts_statement}
-use Rattle.c_syntax.proofs.inner.Inner.more_statements.Goals as goal
-
-pub returns : goal.returns
-returns g c = c.many_behind.ensures starts_statement _ (record { tests = λ t r p. search rules }) (record { reads = λ old new r p. search rules })

@@ -1,4 +1,0 @@
-use Rattle.c_syntax.proofs.nesting.+statement.Given as goal
-
-abbrev pub decreases-statement : goal.decreases-statement
-decreases-statement l = l.left
