@@ -1,30 +1,57 @@
 //! Expressions and types in print.
 
 use c_tree::{
-    Dimension, Enumerator, Expr, Identifier, Literal, Specifiers, StructDeclaration, Suffix,
-    TagSpecifier, TrailingComma, TypeSpecifier,
+    BinaryOperator, Dimension, Enumerator, Expr, Identifier, Literal, Specifiers,
+    StructDeclaration, Suffix, TagSpecifier, TrailingComma, TypeSpecifier, TypeWord, UnaryOperator,
 };
 use std::test::Fail;
 
-/// The comma in front of each part of a list but the first.
+/// Puts a text after what is printed. What it says isn't told to the prover, whom only the tests' safety concerns.
+pub fn put(out: &mut String, text: &str) -> Result<(), Fail> {
+    out.push_str(text)?;
+    Ok(())
+}
+
+/// The name of a binary operator.
+fn print_operator(out: &mut String, operator: BinaryOperator) -> Result<(), Fail> {
+    write!(out, " {operator:?} ")?;
+    Ok(())
+}
+
+/// The name of a unary operator.
+fn print_prefix(out: &mut String, operator: UnaryOperator) -> Result<(), Fail> {
+    write!(out, "{operator:?}")?;
+    Ok(())
+}
+
+/// The name of a word of a type.
+fn print_type_word(out: &mut String, word: TypeWord) -> Result<(), Fail> {
+    write!(out, "{word:?}")?;
+    Ok(())
+}
+
+/// The comma before each part of a list but the first.
 pub fn print_comma(out: &mut String, index: usize) -> Result<(), Fail> {
     if index > 0 {
-        out.push_str(",")?;
+        put(out, ",")?;
     }
     Ok(())
 }
 
 /// The end of a list in braces.
 pub fn print_close(out: &mut String, comma: TrailingComma) -> Result<(), Fail> {
-    out.push_str(match comma {
-        TrailingComma::Absent => "}",
-        TrailingComma::Present => ",}",
-    })?;
+    put(
+        out,
+        match comma {
+            TrailingComma::Absent => "}",
+            TrailingComma::Present => ",}",
+        },
+    )?;
     Ok(())
 }
 
 pub fn print_name(out: &mut String, name: &Identifier) -> Result<(), Fail> {
-    out.push_str(str::from_utf8(name.text.as_bytes())?)?;
+    put(out, str::from_utf8(name.text.as_bytes())?)?;
     Ok(())
 }
 
@@ -32,14 +59,14 @@ fn print_literal(out: &mut String, literal: &Literal) -> Result<(), Fail> {
     match literal {
         Literal::Integer(_, number) => write!(out, "{number}")?,
         Literal::Character(_, number) => write!(out, "'{number}'")?,
-        Literal::True => out.push_str("true")?,
-        Literal::False => out.push_str("false")?,
+        Literal::True => put(out, "true")?,
+        Literal::False => put(out, "false")?,
     }
     Ok(())
 }
 
 /// An expression: angle brackets stand around each chain and each choice, and braces around the operand of each
-/// operator that stands in front of it.
+/// operator that stands before it.
 #[cycle(print)]
 pub fn print_expr(out: &mut String, expr: &Expr) -> Result<(), Fail> {
     match expr {
@@ -51,17 +78,17 @@ pub fn print_expr(out: &mut String, expr: &Expr) -> Result<(), Fail> {
             ..
         } => {
             print_name(out, function)?;
-            out.push_str("(")?;
+            put(out, "(")?;
             for (index, argument) in arguments.as_slice().iter().enumerate() {
                 print_comma(out, index)?;
                 print_expr(out, argument)?;
             }
-            out.push_str(")")?;
+            put(out, ")")?;
         }
         Expr::Parenthesized(_, inner) => {
-            out.push_str("(")?;
+            put(out, "(")?;
             print_expr(out, inner.get())?;
-            out.push_str(")")?;
+            put(out, ")")?;
         }
         Expr::Postfix(first, suffixes) => {
             print_expr(out, first.get())?;
@@ -74,13 +101,13 @@ pub fn print_expr(out: &mut String, expr: &Expr) -> Result<(), Fail> {
             operand,
             ..
         } => {
-            write!(out, "{operator:?}")?;
+            print_prefix(out, *operator)?;
             print_operand(out, operand.get())?;
         }
         Expr::Cast { specs, operand, .. } => {
-            out.push_str("(")?;
+            put(out, "(")?;
             print_specs(out, specs.get())?;
-            out.push_str(")")?;
+            put(out, ")")?;
             print_operand(out, operand.get())?;
         }
         Expr::BinaryChain(..) | Expr::Conditional { .. } => print_angled(out, expr)?,
@@ -91,22 +118,21 @@ pub fn print_expr(out: &mut String, expr: &Expr) -> Result<(), Fail> {
 /// An operand in braces.
 #[cycle(print)]
 fn print_operand(out: &mut String, operand: &Expr) -> Result<(), Fail> {
-    out.push_str("{")?;
+    put(out, "{")?;
     print_expr(out, operand)?;
-    out.push_str("}")?;
+    put(out, "}")?;
     Ok(())
 }
 
 /// A chain or a choice.
 #[cycle(print)]
 fn print_angled(out: &mut String, expr: &Expr) -> Result<(), Fail> {
-    out.push_str("<")?;
+    put(out, "<")?;
     match expr {
         Expr::BinaryChain(first, operands) => {
             print_expr(out, first.get())?;
             for operand in operands.as_slice() {
-                let operator = operand.operator;
-                write!(out, " {operator:?} ")?;
+                print_operator(out, operand.operator)?;
                 print_expr(out, &operand.value)?;
             }
         }
@@ -117,14 +143,14 @@ fn print_angled(out: &mut String, expr: &Expr) -> Result<(), Fail> {
             ..
         } => {
             print_expr(out, condition.get())?;
-            out.push_str(" ? ")?;
+            put(out, " ? ")?;
             print_expr(out, second.get())?;
-            out.push_str(" : ")?;
+            put(out, " : ")?;
             print_expr(out, third.get())?;
         }
         _ => {}
     }
-    out.push_str(">")?;
+    put(out, ">")?;
     Ok(())
 }
 
@@ -132,16 +158,16 @@ fn print_angled(out: &mut String, expr: &Expr) -> Result<(), Fail> {
 fn print_suffix(out: &mut String, suffix: &Suffix) -> Result<(), Fail> {
     match suffix {
         Suffix::Index(_, index) => {
-            out.push_str("[")?;
+            put(out, "[")?;
             print_expr(out, index)?;
-            out.push_str("]")?;
+            put(out, "]")?;
         }
         Suffix::Member(_, name) => {
-            out.push_str(".")?;
+            put(out, ".")?;
             print_name(out, name)?;
         }
         Suffix::Arrow(_, name) => {
-            out.push_str("->")?;
+            put(out, "->")?;
             print_name(out, name)?;
         }
     }
@@ -151,31 +177,31 @@ fn print_suffix(out: &mut String, suffix: &Suffix) -> Result<(), Fail> {
 #[cycle(print)]
 pub fn print_specs(out: &mut String, specs: &Specifiers) -> Result<(), Fail> {
     for _ in specs.before.as_slice() {
-        out.push_str("const ")?;
+        put(out, "const ")?;
     }
     match &specs.kind {
         TypeSpecifier::Words(_, words) => {
             for (index, word) in words.as_slice().iter().enumerate() {
                 if index > 0 {
-                    out.push_str(" ")?;
+                    put(out, " ")?;
                 }
-                write!(out, "{word:?}")?;
+                print_type_word(out, *word)?;
             }
         }
         TypeSpecifier::TagSpecifier(tag) => print_tag(out, tag)?,
         TypeSpecifier::TypeName(name) => print_name(out, name)?,
     }
     for _ in specs.after.as_slice() {
-        out.push_str(" const")?;
+        put(out, " const")?;
     }
     Ok(())
 }
 
-/// A word and the name behind it, if there is one.
+/// A word and the name after it, if there is one.
 fn print_tag_name(out: &mut String, word: &str, name: &Option<Identifier>) -> Result<(), Fail> {
-    out.push_str(word)?;
+    put(out, word)?;
     if let Some(name) = name {
-        out.push_str(" ")?;
+        put(out, " ")?;
         print_name(out, name)?;
     }
     Ok(())
@@ -187,11 +213,11 @@ pub fn print_tag(out: &mut String, tag: &TagSpecifier) -> Result<(), Fail> {
         TagSpecifier::Struct { tag, members, .. } => {
             print_tag_name(out, "struct", tag)?;
             if let Some(members) = members {
-                out.push_str("{")?;
+                put(out, "{")?;
                 for member in members.as_slice() {
                     print_member(out, member)?;
                 }
-                out.push_str("}")?;
+                put(out, "}")?;
             }
         }
         TagSpecifier::Enum {
@@ -202,7 +228,7 @@ pub fn print_tag(out: &mut String, tag: &TagSpecifier) -> Result<(), Fail> {
         } => {
             print_tag_name(out, "enum", tag)?;
             if let Some(constants) = enumerators {
-                out.push_str("{")?;
+                put(out, "{")?;
                 for (index, constant) in constants.as_slice().iter().enumerate() {
                     print_comma(out, index)?;
                     print_enumerator(out, constant)?;
@@ -217,24 +243,24 @@ pub fn print_tag(out: &mut String, tag: &TagSpecifier) -> Result<(), Fail> {
 #[cycle(print)]
 fn print_member(out: &mut String, member: &StructDeclaration) -> Result<(), Fail> {
     print_specs(out, &member.specs)?;
-    out.push_str(" ")?;
+    put(out, " ")?;
     for (index, declared) in member.names.as_slice().iter().enumerate() {
         print_comma(out, index)?;
         print_name(out, &declared.name)?;
         print_dimensions(out, declared.dimensions.as_slice())?;
     }
-    out.push_str(";")?;
+    put(out, ";")?;
     Ok(())
 }
 
 #[cycle(print)]
 pub fn print_dimensions(out: &mut String, dimensions: &[Dimension]) -> Result<(), Fail> {
     for dimension in dimensions {
-        out.push_str("[")?;
+        put(out, "[")?;
         if let Some(size) = &dimension.size {
             print_expr(out, size)?;
         }
-        out.push_str("]")?;
+        put(out, "]")?;
     }
     Ok(())
 }
@@ -243,7 +269,7 @@ pub fn print_dimensions(out: &mut String, dimensions: &[Dimension]) -> Result<()
 fn print_enumerator(out: &mut String, constant: &Enumerator) -> Result<(), Fail> {
     print_name(out, &constant.name)?;
     if let Some(value) = &constant.value {
-        out.push_str("=")?;
+        put(out, "=")?;
         print_expr(out, value)?;
     }
     Ok(())

@@ -1,12 +1,13 @@
 //! Declarations, statements and programs in print.
 
 use crate::print::{
-    print_close, print_comma, print_dimensions, print_expr, print_name, print_specs, print_tag,
+    print_close, print_comma, print_dimensions, print_expr, print_name, print_specs, print_tag, put,
 };
 use c_tree::{
-    Block, BlockItem, Declaration, Expr, ExpressionStatement, ExternalDeclaration, First, Function,
-    FunctionSpecifiers, InitDeclarator, Initializer, Iteration, Label, LabelledSection, LoopBound,
-    Parameter, Parameters, Pointer, Program, Selection, Statement,
+    AssignmentOperator, Block, BlockItem, Declaration, Expr, ExpressionStatement,
+    ExternalDeclaration, First, Function, FunctionSpecifiers, InitDeclarator, Initializer,
+    Iteration, Label, LabelledSection, LoopBound, Parameter, Parameters, Pointer, Program,
+    Selection, Statement, Step,
 };
 use std::test::Fail;
 
@@ -14,7 +15,7 @@ fn print_init(out: &mut String, init: &Initializer) -> Result<(), Fail> {
     match init {
         Initializer::Expression(value) => print_expr(out, value)?,
         Initializer::List { parts, comma, .. } => {
-            out.push_str("{")?;
+            put(out, "{")?;
             for (index, part) in parts.as_slice().iter().enumerate() {
                 print_comma(out, index)?;
                 print_init(out, part)?;
@@ -27,11 +28,14 @@ fn print_init(out: &mut String, init: &Initializer) -> Result<(), Fail> {
 
 fn print_pointer(out: &mut String, pointer: &Option<Pointer>) -> Result<(), Fail> {
     if let Some(pointer) = pointer {
-        out.push_str(if pointer.constant.is_some() {
-            "*const "
-        } else {
-            "*"
-        })?;
+        put(
+            out,
+            if pointer.constant.is_some() {
+                "*const "
+            } else {
+                "*"
+            },
+        )?;
     }
     Ok(())
 }
@@ -41,7 +45,7 @@ fn print_declarator(out: &mut String, declarator: &InitDeclarator) -> Result<(),
     print_name(out, &declarator.name)?;
     print_dimensions(out, declarator.dimensions.as_slice())?;
     if let Some(start) = &declarator.start {
-        out.push_str("=")?;
+        put(out, "=")?;
         print_init(out, &start.value)?;
     }
     Ok(())
@@ -49,12 +53,22 @@ fn print_declarator(out: &mut String, declarator: &InitDeclarator) -> Result<(),
 
 fn print_objects(out: &mut String, objects: &Declaration) -> Result<(), Fail> {
     print_specs(out, &objects.specs)?;
-    out.push_str(" ")?;
+    put(out, " ")?;
     for (index, declarator) in objects.declarators.as_slice().iter().enumerate() {
         print_comma(out, index)?;
         print_declarator(out, declarator)?;
     }
-    out.push_str(";")?;
+    put(out, ";")?;
+    Ok(())
+}
+
+fn print_assign(out: &mut String, operator: AssignmentOperator) -> Result<(), Fail> {
+    write!(out, " {operator:?} ")?;
+    Ok(())
+}
+
+fn print_step(out: &mut String, step: Step) -> Result<(), Fail> {
+    write!(out, "{step:?}")?;
     Ok(())
 }
 
@@ -67,15 +81,17 @@ fn print_simple(out: &mut String, simple: &ExpressionStatement) -> Result<(), Fa
             ..
         } => {
             print_expr(out, target)?;
-            write!(out, " {operator:?} ")?;
+            print_assign(out, *operator)?;
             print_expr(out, value)?;
         }
         ExpressionStatement::PostfixStep { operand, step, .. } => {
             print_expr(out, operand)?;
-            write!(out, " {step:?}")?;
+            put(out, " ")?;
+            print_step(out, *step)?;
         }
         ExpressionStatement::PrefixStep { step, operand, .. } => {
-            write!(out, "{step:?} ")?;
+            print_step(out, *step)?;
+            put(out, " ")?;
             print_expr(out, operand)?;
         }
         ExpressionStatement::Call(call) => print_expr(out, call)?,
@@ -83,12 +99,12 @@ fn print_simple(out: &mut String, simple: &ExpressionStatement) -> Result<(), Fa
     Ok(())
 }
 
-/// A condition in brackets behind its word.
+/// A condition in brackets after its word.
 fn print_condition(out: &mut String, word: &str, condition: &Expr) -> Result<(), Fail> {
-    out.push_str(word)?;
-    out.push_str("(")?;
+    put(out, word)?;
+    put(out, "(")?;
     print_expr(out, condition)?;
-    out.push_str(")")?;
+    put(out, ")")?;
     Ok(())
 }
 
@@ -108,17 +124,17 @@ fn print_head(
     step: &Option<ExpressionStatement>,
 ) -> Result<(), Fail> {
     match first {
-        First::Nothing => out.push_str(";")?,
+        First::Nothing => put(out, ";")?,
         First::Declaration(objects) => print_objects(out, objects)?,
         First::Expression(simple) => {
             print_simple(out, simple)?;
-            out.push_str(";")?;
+            put(out, ";")?;
         }
     }
     if let Some(condition) = condition {
         print_expr(out, condition)?;
     }
-    out.push_str(";")?;
+    put(out, ";")?;
     if let Some(step) = step {
         print_simple(out, step)?;
     }
@@ -129,18 +145,18 @@ fn print_head(
 fn print_plain(out: &mut String, statement: &Statement) -> Result<(), Fail> {
     match statement {
         Statement::Expression(simple) => print_simple(out, simple.get())?,
-        Statement::Break(_) => out.push_str("break")?,
-        Statement::Continue(_) => out.push_str("continue")?,
+        Statement::Break(_) => put(out, "break")?,
+        Statement::Continue(_) => put(out, "continue")?,
         Statement::Return(_, value) => {
-            out.push_str("return")?;
+            put(out, "return")?;
             if let Some(value) = value.get() {
-                out.push_str(" ")?;
+                put(out, " ")?;
                 print_expr(out, value)?;
             }
         }
         _ => {}
     }
-    out.push_str(";")?;
+    put(out, ";")?;
     Ok(())
 }
 
@@ -167,7 +183,7 @@ fn print_selection(out: &mut String, selection: &Selection) -> Result<(), Fail> 
             print_condition(out, "if", condition)?;
             print_held(out, then)?;
             if let Some(otherwise) = otherwise {
-                out.push_str("else")?;
+                put(out, "else")?;
                 print_held(out, otherwise)?;
             }
         }
@@ -203,10 +219,10 @@ fn print_iteration(out: &mut String, iteration: &Iteration) -> Result<(), Fail> 
             ..
         } => {
             print_bound(out, bound)?;
-            out.push_str("do")?;
+            put(out, "do")?;
             print_held(out, body)?;
             print_condition(out, "while", condition)?;
-            out.push_str(";")?;
+            put(out, ";")?;
         }
         Iteration::For {
             bound,
@@ -217,9 +233,9 @@ fn print_iteration(out: &mut String, iteration: &Iteration) -> Result<(), Fail> 
             ..
         } => {
             print_bound(out, bound)?;
-            out.push_str("for(")?;
+            put(out, "for(")?;
             print_head(out, first, condition, step)?;
-            out.push_str(")")?;
+            put(out, ")")?;
             print_held(out, body)?;
         }
     }
@@ -229,67 +245,67 @@ fn print_iteration(out: &mut String, iteration: &Iteration) -> Result<(), Fail> 
 /// A statement in another.
 #[cycle(print_statements)]
 fn print_held(out: &mut String, statement: &Statement) -> Result<(), Fail> {
-    out.push_str("<")?;
+    put(out, "<")?;
     print_statement(out, statement)?;
-    out.push_str(">")?;
+    put(out, ">")?;
     Ok(())
 }
 
 /// The sections of a `switch`, each in square brackets.
 #[cycle(print_statements)]
 fn print_sections(out: &mut String, sections: &[LabelledSection]) -> Result<(), Fail> {
-    out.push_str("{")?;
+    put(out, "{")?;
     for section in sections {
-        out.push_str("[")?;
+        put(out, "[")?;
         for label in section.labels.as_slice() {
             print_label(out, label)?;
         }
         for statement in section.statements.as_slice() {
             print_statement(out, statement)?;
         }
-        out.push_str("]")?;
+        put(out, "]")?;
     }
-    out.push_str("}")?;
+    put(out, "}")?;
     Ok(())
 }
 
 fn print_label(out: &mut String, label: &Label) -> Result<(), Fail> {
     match label {
         Label::Case(_, value) => {
-            out.push_str("case ")?;
+            put(out, "case ")?;
             print_expr(out, value)?;
         }
-        Label::Default(_) => out.push_str("default")?,
+        Label::Default(_) => put(out, "default")?,
     }
-    out.push_str(":")?;
+    put(out, ":")?;
     Ok(())
 }
 
 #[cycle(print_statements)]
 fn print_block(out: &mut String, block: &Block) -> Result<(), Fail> {
-    out.push_str("{")?;
+    put(out, "{")?;
     for part in block.parts.as_slice() {
         match part {
             BlockItem::Statement(statement) => print_statement(out, statement)?,
             BlockItem::Declaration(objects) => print_objects(out, objects.get())?,
             BlockItem::TagSpecifier(tag) => {
                 print_tag(out, tag.get())?;
-                out.push_str(";")?;
+                put(out, ";")?;
             }
         }
     }
-    out.push_str("}")?;
+    put(out, "}")?;
     Ok(())
 }
 
 fn print_words(out: &mut String, words: &FunctionSpecifiers) -> Result<(), Fail> {
     for _ in words.inline.as_slice() {
-        out.push_str("inline ")?;
+        put(out, "inline ")?;
     }
     if let Some(fixed) = &words.fixed {
-        out.push_str("static ")?;
+        put(out, "static ")?;
         for _ in fixed.inline.as_slice() {
-            out.push_str("inline ")?;
+            put(out, "inline ")?;
         }
     }
     Ok(())
@@ -297,7 +313,7 @@ fn print_words(out: &mut String, words: &FunctionSpecifiers) -> Result<(), Fail>
 
 fn print_parameter(out: &mut String, parameter: &Parameter) -> Result<(), Fail> {
     print_specs(out, &parameter.specs)?;
-    out.push_str(" ")?;
+    put(out, " ")?;
     print_pointer(out, &parameter.pointer)?;
     print_name(out, &parameter.name)?;
     print_dimensions(out, parameter.dimensions.as_slice())
@@ -306,12 +322,12 @@ fn print_parameter(out: &mut String, parameter: &Parameter) -> Result<(), Fail> 
 fn print_function(out: &mut String, function: &Function) -> Result<(), Fail> {
     print_words(out, &function.words)?;
     print_specs(out, &function.specs)?;
-    out.push_str(" ")?;
+    put(out, " ")?;
     print_name(out, &function.name)?;
-    out.push_str("(")?;
+    put(out, "(")?;
     match &function.parameters {
         Parameters::Nothing => {}
-        Parameters::Void(_) => out.push_str("void")?,
+        Parameters::Void(_) => put(out, "void")?,
         Parameters::List(parameters) => {
             for (index, parameter) in parameters.as_slice().iter().enumerate() {
                 print_comma(out, index)?;
@@ -319,7 +335,7 @@ fn print_function(out: &mut String, function: &Function) -> Result<(), Fail> {
             }
         }
     }
-    out.push_str(")")?;
+    put(out, ")")?;
     print_block(out, &function.body)
 }
 
@@ -331,20 +347,20 @@ fn print_item(out: &mut String, item: &ExternalDeclaration) -> Result<(), Fail> 
             dimensions,
             ..
         } => {
-            out.push_str("typedef ")?;
+            put(out, "typedef ")?;
             print_specs(out, specs.get())?;
-            out.push_str(" ")?;
+            put(out, " ")?;
             print_name(out, name)?;
             print_dimensions(out, dimensions.as_slice())?;
-            out.push_str(";")?;
+            put(out, ";")?;
         }
         ExternalDeclaration::TagSpecifier(tag) => {
             print_tag(out, tag.get())?;
-            out.push_str(";")?;
+            put(out, ";")?;
         }
         ExternalDeclaration::Declaration(fixed, objects) => {
             if fixed.is_some() {
-                out.push_str("static ")?;
+                put(out, "static ")?;
             }
             print_objects(out, objects.get())?;
         }
@@ -355,7 +371,7 @@ fn print_item(out: &mut String, item: &ExternalDeclaration) -> Result<(), Fail> 
 
 pub fn print_program(out: &mut String, program: &Program) -> Result<(), Fail> {
     if program.items().is_empty() {
-        out.push_str("nothing")?;
+        put(out, "nothing")?;
     }
     for item in program.items() {
         print_item(out, item)?;

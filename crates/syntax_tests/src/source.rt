@@ -7,11 +7,19 @@ use c_tree::{Place, Tokens};
 use std::alloc::Global;
 use std::test::Fail;
 
-/// The tokens of a text, of which so many stand in front of those that are numbered.
+/// The tokens of a text, of which so many stand before those that are numbered.
 #[derive(Drop)]
 pub struct Source {
     tokens: Tokens,
     front: usize,
+}
+
+/// That what is found is what is wanted of a row.
+pub fn same(alloc: Global, row: &str, found: &str, want: &str) -> Result<(), Fail> {
+    if found == want {
+        return Ok(());
+    }
+    Err(format!(in alloc; "{row}: {found}, and not {want}")?.into())
 }
 
 /// The tokens of a text.
@@ -22,8 +30,8 @@ pub fn tokens_of(alloc: Global, text: &str) -> Result<Tokens, Fail> {
     Ok(tokens(alloc, text.as_bytes())?)
 }
 
-/// Puts words behind a text, each with a space or a line's end behind it, and tells how many they are. The bound of a
-/// loop, a number behind a `#`, becomes a line of its own.
+/// Puts words after a text, each with a space or a line's end after it, and tells how many they are. The bound of a
+/// loop, a number after a `#`, becomes a line of its own.
 fn push_words(text: &mut String, words: &str) -> Result<usize, Fail> {
     let mut count = 0usize;
     for word in words.split(' ').filter(|word| !word.is_empty()) {
@@ -42,16 +50,16 @@ impl Source {
         let mut text = String::new(alloc);
         let front = push_words(&mut text, around.0)?;
         let middle = push_words(&mut text, words)?;
-        let behind = push_words(&mut text, around.1)?;
+        let following = push_words(&mut text, around.1)?;
         let tokens = tokens_of(alloc, text.as_str())?;
-        let count = front.saturating_add(middle).saturating_add(behind);
+        let count = front.saturating_add(middle).saturating_add(following);
         if tokens.as_slice().len() != count.saturating_add(1) {
             return Err("a token for each word".into());
         }
         Ok(Source { tokens, front })
     }
 
-    /// The number of the token at a place, counted from 1 behind those in front.
+    /// The number of the token at a place, counted from 1 after those in front.
     fn number_of(&self, place: Place) -> Option<usize> {
         let index = self
             .tokens
