@@ -1,0 +1,2 @@
+-- the numbers behind shifts and quotients that C leaves undefined
+mod ShiftLaws
