@@ -58,8 +58,9 @@ pub fn instr_finish(instr: &Instr, role: Role, x: u64, y: u64, half: &Half, inbo
     }
 }
 
-/// The role's new share of an instruction at A for which nothing is sent. A constant of a sum or a difference is P0's alone.
-fn local_share(instr: &Instr, role: Role, x: u64, y: u64) -> u64
+/// The role's new share of an instruction at A for which nothing is sent, from its shares `x` and `y` of the operands. A constant of a
+/// sum or a difference is P0's alone.
+pub fn local_share(instr: &Instr, role: Role, x: u64, y: u64) -> u64
     ensures { result ≡ local_A instr.now.kind instr.now.width role instr.now.value x y }
 {
     let w = instr.width;

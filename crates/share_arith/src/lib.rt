@@ -8,6 +8,8 @@
 //! - `Arith` is a secret-sharing scheme: the two shares after an operation stand for its value. Sums, differences, negation and cuts
 //!   to a narrower width send nothing; a product takes a Beaver triple (`src/arith.rt`; read `src/sharing.rt` of share_core, then
 //!   `specs/Operations.antt`).
+//! - `local_share` is a party's share after an instruction for which nothing is sent (`src/instructions.rt`; read `specs/Instructions.antt`
+//!   of share_core).
 //! - `instr_send` and `instr_finish` do one party's part of an instruction of a plan at A, or of one gate of a level: inputs,
 //!   operations with constants and openings among them; `instr_sent` is how many bytes it sends (`src/instructions.rt`; read
 //!   `specs/Instructions.antt` of share_core, whose `instr_law` says what the shares stand for).
@@ -28,5 +30,5 @@ mod instructions;
 mod words;
 
 pub use arith::{Arith, ArithOp, Triple};
-pub use instructions::{instr_finish, instr_send, instr_sent};
+pub use instructions::{instr_finish, instr_send, instr_sent, local_share};
 pub use words::{add, opened, share};

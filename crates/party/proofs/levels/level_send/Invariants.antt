@@ -1,0 +1,16 @@
+use Rattle.std.proofs.Common.{◌≡◌, ◌+◌, ◌++◌, ℕ, List, length, take}
+use Rattle.share_core.specs.declared.instr.Instr.{Instr}
+use Rattle.share_core.specs.Levels.{level_message, summed}
+use Rattle.share_core.specs.Machine.{gate_message}
+use Rattle.party.specs.Steps.{view}
+use Rattle.party.specs.Gates.{gate_sent}
+use Rattle.party.proofs.levels.level_send.Given as goal
+
+abbrev pub invariant-loop-number : goal.invariant-loop-number
+invariant-loop-number g l = record {
+  items : (all : List Instr) (codes : List ℕ) (chosen own : ℕ) →
+      let v = view l.role all codes l.slots l.offset chosen own (λ k. (g.H.Halves.meant l.halves l.role k).words) in
+      l.outbox.items ≡ l.fn.outbox.items ++ level_message (λ k gate. gate_message v k gate gate.kind) 0 (take l.number l.gates);
+  room : l.outbox.room ≡ l.fn.outbox.room;
+  long : length l.outbox.items ≡ length l.fn.outbox.items + summed (λ gate. gate_sent gate.kind gate.width l.role) (take l.number l.gates);
+}
