@@ -1,0 +1,4 @@
+pub mod PlainOrder
+pub mod Standing
+pub mod Counting
+pub mod Schedules
