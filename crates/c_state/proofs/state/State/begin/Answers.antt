@@ -1,0 +1,11 @@
+use Rattle.std.proofs.Common.{◌<◌, ap, List, arith, length}
+use Rattle.c_meaning.specs.State as meaning
+use Rattle.c_state.specs.Views.{cells_in, begun_object}
+use Rattle.c_state.proofs.Objects.{object_changed}
+use Rattle.c_state.proofs.state.State.begin.Goals as goal
+
+pub returns-then-object-len : goal.returns-then-object-len
+returns-then-object-len c =
+    let h : c.args.object < length c.args.self.now.objects.items = omega (arith, c.if-object-len.true, c.len.ensures) in
+    ap (λ (objects : List meaning.Stored). let s : meaning.State = record { objects = objects; returned = cells_in c.args.self.now.returned; undefined = c.args.self.now.undefined } in s)
+    (object_changed begun_object c.args.self.now.objects.items c.args.object c.index_mut.result.now c.begin.new.self h c.index_mut.ensures.value c.begin.ensures)

@@ -1,0 +1,4 @@
+-- runs that pass the bound of a loop
+pub mod Past
+-- structs that are copied
+pub mod Copies
