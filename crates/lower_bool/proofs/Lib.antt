@@ -1,0 +1,5 @@
+pub mod RowLaws
+pub mod OperationLaws
+pub mod PlaceLaws
+pub mod WalkLaws
+pub mod PartLaws

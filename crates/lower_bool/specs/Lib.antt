@@ -1,0 +1,5 @@
+pub mod Rows
+pub mod Parts
+pub mod Stated
+pub mod Operations
+pub mod Walk
