@@ -1,0 +1,9 @@
+pub mod Names
+pub mod Parts
+pub mod Meaning
+pub mod Room
+pub mod Costs
+pub mod Fans
+pub mod Whole
+pub mod Stated
+pub mod Means
