@@ -1,0 +1,12 @@
+-- lists of words, chosen and written
+pub mod ListLaws
+-- selections as nodes of a graph
+pub mod SelectionLaws
+-- reads of what targets name
+pub mod ReadLaws
+-- words placed in lists
+pub mod PlaceLaws
+-- targets while a graph grows, and the nodes that they name
+pub mod TargetLaws
+-- boards while a graph grows, and boards of which one object is changed
+pub mod BoardLaws

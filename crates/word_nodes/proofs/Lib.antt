@@ -1,0 +1,2 @@
+-- growth, and what nodes and lists of nodes keep under it
+pub mod NodeLaws
