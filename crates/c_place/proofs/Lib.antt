@@ -10,3 +10,5 @@ pub mod PlaceLaws
 pub mod TargetLaws
 -- boards while a graph grows, and boards of which one object is changed
 pub mod BoardLaws
+-- equality of pointers by their objects and cells
+pub mod SameLaws

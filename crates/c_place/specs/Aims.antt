@@ -1,5 +1,5 @@
 -- What pointers stand for where the inputs are given (C11 6.5.2.1, 6.5.6): lists of targets, of which at most one is there.
-use Rattle.std.specs.Prelude.{◌≡◌, ℕ, ◌+◌, ◌^◌, ◌==◌, ◌&&◌, Bool, if◌then◌else◌, nat_lt, List, [], ◌∷◌, map, Some, None}
+use Rattle.std.specs.Prelude.{◌≡◌, ℕ, ◌+◌, ◌*◌, ◌%◌, ◌^◌, ◌==◌, ◌&&◌, Bool, if◌then◌else◌, nat_lt, List, [], ◌∷◌, map, Some, None}
 use Rattle.std.specs.List.{All}
 use Rattle.hy_bits.specs.Words.{signed}
 use Rattle.hy_bits.specs.declared.width.Width.TheVariants.{W1, W64}
@@ -37,6 +37,28 @@ aims_there (a ∷ more) = a.guard + aims_there more
 -- the pointer is there, and points to an element
 abbrev pub is_hit : Aim → Bool
 is_hit a = (a.guard == 1) && nat_lt a.index a.length
+
+-- ---- equality (C11 6.5.9p6): the object and the cell that a pointer goes by, 0 where it is null
+
+-- the cell of the element, by numbers modulo 2^64
+abbrev pub number_of_cell : Aim → ℕ
+number_of_cell a = (a.first + a.index * a.size) % 2 ^ 64
+
+abbrev pub coded_object : ℕ → List Aim → ℕ
+coded_object r [] = r
+coded_object r (a ∷ more) = coded_object (if a.guard == 1 then a.object else r) more
+
+abbrev pub coded_cell : ℕ → List Aim → ℕ
+coded_cell r [] = r
+coded_cell r (a ∷ more) = coded_cell (if a.guard == 1 then number_of_cell a else r) more
+
+-- the most gates of the product of an index and a size, which is wanted for sizes above 1
+abbrev pub product_size : Target → ℕ
+product_size t = if nat_lt 1 t.size then 36352 else 0
+
+abbrev pub product_sizes : List Target → ℕ
+product_sizes [] = 0
+product_sizes (t ∷ ts) = product_size t + product_sizes ts
 
 -- ---- targets of a graph
 

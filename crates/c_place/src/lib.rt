@@ -10,13 +10,17 @@
 //!   outside; `Cells::store` writes words to it where a guard holds, and changes nothing else. Both tell how many nodes they make, also after an
 //!   `Err`, and end at the limit only where the graph is full (`src/loading.rt`, `src/storing.rt`; read `specs/Aims.antt`,
 //!   `specs/Boards.antt`, `specs/Accesses.antt`; of c_meaning `State.antt`; of word_nodes `Nodes.antt`).
+//! - `same` tells whether two pointers are equal, for all inputs that fit, within its numbers of nodes and gates (`src/equality.rt`; read
+//!   `specs/Aims.antt`; of c_meaning `State.antt`).
 #![tactic(auto)]
 
 mod cells;
+mod equality;
 mod loading;
 mod selecting;
 mod storing;
 mod targets;
 
 pub use cells::{Board, Cells, Held, Zeros};
+pub use equality::same;
 pub use targets::{Target, Targets};
