@@ -12,7 +12,7 @@
 //! - `width_of`: the width of a node.
 //!
 //! Laws that the crates above can import: `proofs/NodeLaws.antt`, on growth and on what nodes and lists of nodes keep under it.
-#![tactic(auto, using(crate::proofs::NodeLaws::Extends_of, crate::proofs::NodeLaws::IsFull_of))]
+#![tactic(auto)]
 
 ghost use Rattle.std.specs.Prelude.{◌≡◌, ℕ, List, ◌+◌, ◌*◌, ◌-◌, ◌%◌, ◌^◌, ◌≤◌, ◌<◌, ◌==◌, length, if◌then◌else◌, IfOk, IfErr};
 ghost use Rattle.hy_bits.specs.Bits.{bit};
@@ -38,6 +38,7 @@ pub fn width_of(graph: &Graph, n: Node) -> Width
 /// # Errors
 ///
 /// `NodeLimit` where the graph is full, and `Memory`. The graph is as before.
+#[tactic(auto, using(crate::proofs::NodeLaws::Extends_of, crate::proofs::NodeLaws::IsFull_of))]
 pub fn constant(graph: &mut Graph, width: Width, word: u64) -> Result<Node, GraphFault>
     requires { word < modulus width }
     ensures stands { IfOk result (Stands graph.new width) }
@@ -55,6 +56,7 @@ pub fn constant(graph: &mut Graph, width: Width, word: u64) -> Result<Node, Grap
 /// # Errors
 ///
 /// `NodeLimit` where the graph is full, and `Memory`. The graph is as before.
+#[tactic(auto, using(crate::proofs::NodeLaws::Extends_of, crate::proofs::NodeLaws::IsFull_of))]
 pub fn conjunction(graph: &mut Graph, a: Node, b: Node, region: u32) -> Result<Node, GraphFault>
     requires first { Stands graph.old Width.W1 a }
     requires second { Stands graph.old Width.W1 b }
@@ -73,6 +75,7 @@ pub fn conjunction(graph: &mut Graph, a: Node, b: Node, region: u32) -> Result<N
 /// # Errors
 ///
 /// `NodeLimit` where the graph is full, and `Memory`. The graph is as before.
+#[tactic(auto, using(crate::proofs::NodeLaws::Extends_of, crate::proofs::NodeLaws::IsFull_of))]
 pub fn disjunction(graph: &mut Graph, a: Node, b: Node, region: u32) -> Result<Node, GraphFault>
     requires first { Stands graph.old Width.W1 a }
     requires second { Stands graph.old Width.W1 b }
@@ -91,6 +94,7 @@ pub fn disjunction(graph: &mut Graph, a: Node, b: Node, region: u32) -> Result<N
 /// # Errors
 ///
 /// `NodeLimit` where the graph is full, and `Memory`. The graph is as before.
+#[tactic(auto, using(crate::proofs::NodeLaws::Extends_of, crate::proofs::NodeLaws::IsFull_of))]
 pub fn complement(graph: &mut Graph, a: Node, region: u32) -> Result<Node, GraphFault>
     requires { Stands graph.old Width.W1 a }
     ensures stands { IfOk result (Stands graph.new Width.W1) }
@@ -108,6 +112,7 @@ pub fn complement(graph: &mut Graph, a: Node, region: u32) -> Result<Node, Graph
 /// # Errors
 ///
 /// `NodeLimit` where the graph is full, and `Memory`. The graph is as before.
+#[tactic(auto, using(crate::proofs::NodeLaws::Extends_of, crate::proofs::NodeLaws::IsFull_of))]
 pub fn equality(
     graph: &mut Graph,
     width: Width,
@@ -132,6 +137,7 @@ pub fn equality(
 /// # Errors
 ///
 /// `NodeLimit` where the graph is full, and `Memory`. The graph is as before.
+#[tactic(auto, using(crate::proofs::NodeLaws::Extends_of, crate::proofs::NodeLaws::IsFull_of))]
 pub fn selection(
     graph: &mut Graph,
     width: Width,
@@ -158,6 +164,7 @@ pub fn selection(
 /// # Errors
 ///
 /// `NodeLimit` where the graph is full, and `Memory`. The graph is as before.
+#[tactic(auto, using(crate::proofs::NodeLaws::Extends_of, crate::proofs::NodeLaws::IsFull_of))]
 pub fn sum(graph: &mut Graph, a: Node, b: Node, region: u32) -> Result<Node, GraphFault>
     requires first { Stands graph.old Width.W64 a }
     requires second { Stands graph.old Width.W64 b }
@@ -176,6 +183,7 @@ pub fn sum(graph: &mut Graph, a: Node, b: Node, region: u32) -> Result<Node, Gra
 /// # Errors
 ///
 /// `NodeLimit` where the graph is full, and `Memory`. The graph is as before.
+#[tactic(auto, using(crate::proofs::NodeLaws::Extends_of, crate::proofs::NodeLaws::IsFull_of))]
 pub fn difference(graph: &mut Graph, a: Node, b: Node, region: u32) -> Result<Node, GraphFault>
     requires first { Stands graph.old Width.W64 a }
     requires second { Stands graph.old Width.W64 b }
@@ -194,6 +202,7 @@ pub fn difference(graph: &mut Graph, a: Node, b: Node, region: u32) -> Result<No
 /// # Errors
 ///
 /// `NodeLimit` where the graph is full, and `Memory`. The graph is as before.
+#[tactic(auto, using(crate::proofs::NodeLaws::Extends_of, crate::proofs::NodeLaws::IsFull_of))]
 pub fn product(graph: &mut Graph, a: Node, b: Node, region: u32) -> Result<Node, GraphFault>
     requires first { Stands graph.old Width.W64 a }
     requires second { Stands graph.old Width.W64 b }
