@@ -1,4 +1,8 @@
+ghost use Rattle.std.specs.Prelude.{◌≡◌};
+
 use c_tree::Place;
+use hy_bits::Memory;
+use std::alloc::{AllocError, AllocFailed};
 
 /// How a program breaks a rule of types.
 #[derive(Clone, Copy, Debug, PartialEq, Eq)]
@@ -23,7 +27,7 @@ pub enum TypeKind {
     Cells,
     /// More than 2^20 visits of statements.
     Unroll,
-    /// Memory ran out.
+    /// Memory ran out; the place says nothing.
     Memory,
 }
 
@@ -32,4 +36,49 @@ pub enum TypeKind {
 pub struct TypeFault {
     pub kind: TypeKind,
     pub place: Place,
+}
+
+impl TypeFault {
+    /// A rule that is broken in this way at the place.
+    pub fn new(kind: TypeKind, place: Place) -> TypeFault
+        ensures { result ≡ record { kind = kind; place = place } }
+    {
+        TypeFault { kind, place }
+    }
+}
+
+impl From<Memory> for TypeFault {
+    ghost use Rattle.std.specs.Prelude.{◌≡◌};
+    ghost use Rattle.c_conversions.specs.declared.fault.TypeKind.TheVariants as kinds;
+
+    ghost from_gives = { λ _ fault. fault.kind ≡ kinds.Memory };
+
+    fn from(_error: Memory) -> TypeFault {
+        TypeFault {
+            kind: TypeKind::Memory,
+            place: Place { line: 1, column: 1 },
+        }
+    }
+}
+
+impl From<AllocError> for TypeFault {
+    ghost use Rattle.std.specs.Prelude.{◌≡◌};
+    ghost use Rattle.c_conversions.specs.declared.fault.TypeKind.TheVariants as kinds;
+
+    ghost from_gives = { λ _ fault. fault.kind ≡ kinds.Memory };
+
+    fn from(_error: AllocError) -> TypeFault {
+        TypeFault::from(Memory)
+    }
+}
+
+impl<T: Drop> From<AllocFailed<T>> for TypeFault {
+    ghost use Rattle.std.specs.Prelude.{◌≡◌};
+    ghost use Rattle.c_conversions.specs.declared.fault.TypeKind.TheVariants as kinds;
+
+    ghost from_gives = { λ _ fault. fault.kind ≡ kinds.Memory };
+
+    fn from(_error: AllocFailed<T>) -> TypeFault {
+        TypeFault::from(Memory)
+    }
 }

@@ -1,0 +1,6 @@
+-- what is left of lists, one more at a time
+pub mod Folding
+-- turns, one more at a time
+pub mod Turns
+-- marks of lists
+pub mod Marking
