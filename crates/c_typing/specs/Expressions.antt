@@ -205,10 +205,10 @@ abbrev pub address_typing : Place → Typing → Walk Typing
 address_typing place (Gives value) env = Breaks Mismatch place
 address_typing place (Designates of c qualifier) env =
     elim (kind_of c) [
-      kind.Void ↦ Passes (value_gives (expr.Address place of) (ctype.Pointer qualifier c)) env
-    | kind.Integer t ↦ Passes (value_gives (expr.Address place of) (ctype.Pointer qualifier c)) env
-    | kind.Pointer ↦ Breaks PointerForm place
-    | kind.Struct number ↦ Passes (value_gives (expr.Address place of) (ctype.Pointer qualifier c)) env
+      | kind.Void ↦ Passes (value_gives (expr.Address place of) (ctype.Pointer qualifier c)) env
+      | kind.Integer t ↦ Passes (value_gives (expr.Address place of) (ctype.Pointer qualifier c)) env
+      | kind.Pointer ↦ Breaks PointerForm place
+      | kind.Struct number ↦ Passes (value_gives (expr.Address place of) (ctype.Pointer qualifier c)) env
     ]
 
 abbrev pub indirection_typing : Place → TypedValue → Walk Typing

@@ -112,9 +112,7 @@ pub fn calls(
         return Err(TypeFault::new(TypeKind::Mismatch, bracket));
     };
     match env.functions.get(number as usize) {
-        Some(function) => {
-            with_arguments(alloc, env, name, bracket, number, function, values)
-        }
+        Some(function) => { with_arguments(alloc, env, name, bracket, number, function, values) }
         None => Err(TypeFault::new(TypeKind::Mismatch, bracket)),
     }
 }

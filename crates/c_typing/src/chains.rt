@@ -78,12 +78,7 @@ fn conjunction(
 }
 
 /// Operands of other operators with one more.
-fn chain(
-    alloc: Global,
-    form: Form,
-    left: TypedExpr,
-    step: ChainStep,
-) -> Result<TypedExpr, Memory>
+fn chain(alloc: Global, form: Form, left: TypedExpr, step: ChainStep) -> Result<TypedExpr, Memory>
     ensures { IfOk result (λ more. more ≡ spec.chain form left step (out-TypedExpr left)) }
 {
     match (form, left) {

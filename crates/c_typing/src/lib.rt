@@ -35,15 +35,12 @@ pub use environment::{Entity, Environment, QualifiedType, Tag};
 pub use names::{assigned_to, entity, literal_typing, name_typing};
 pub use postfix::{arrow_typing, member_typing, subscript};
 pub use specifiers::{
-    array_of, dimension, int_constant, next_word, object_type, qualified, spelled,
-    type_name_typing,
+    array_of, dimension, int_constant, next_word, object_type, qualified, spelled, type_name_typing,
 };
 pub use structs::{Members, add_member};
 pub use tags::{
     close_struct, declare_entity, enum_reference, enum_tag, is_free, open_struct, struct_alone,
     struct_reference,
 };
-pub use unary::{
-    address_typing, cast_from, indirection_typing, not_typing, sign_typing,
-};
+pub use unary::{address_typing, cast_from, indirection_typing, not_typing, sign_typing};
 pub use values::{TypedValue, Typing, value};

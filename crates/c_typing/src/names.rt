@@ -76,11 +76,7 @@ fn object_typing(
 /// # Errors
 ///
 /// The first rule that is broken, or memory ran out.
-pub fn name_typing(
-    alloc: Global,
-    env: &Environment,
-    name: &Identifier,
-) -> Result<Typing, TypeFault>
+pub fn name_typing(alloc: Global, env: &Environment, name: &Identifier) -> Result<Typing, TypeFault>
     ensures { Tells result env.now (spec.name_typing name.now env.now) }
 {
     let place = name.place;

@@ -164,11 +164,7 @@ fn is_negative(width: Width, word: u64) -> bool
 /// # Errors
 ///
 /// `NotConstant` at the place: it is no constant expression of a value from 1 to 65536.
-pub fn dimension(
-    env: &Environment,
-    place: Place,
-    value: &TypedValue,
-) -> Result<u32, TypeFault>
+pub fn dimension(env: &Environment, place: Place, value: &TypedValue) -> Result<u32, TypeFault>
     ensures { Tells result env.now (spec.dimension place value.now env.now) }
 {
     match count_where(scalar(&value.ctype), constant_word(&value.expr)) {

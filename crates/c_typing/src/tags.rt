@@ -43,12 +43,7 @@ pub fn declare_entity(
 /// # Errors
 ///
 /// Memory ran out.
-fn declare_tag(
-    alloc: Global,
-    env: &mut Environment,
-    name: &[u8],
-    tag: Tag,
-) -> Result<(), Memory>
+fn declare_tag(alloc: Global, env: &mut Environment, name: &[u8], tag: Tag) -> Result<(), Memory>
     ensures { OnOk result (env.new ≡ spec.with_tag name.now tag env.old) }
 {
     let number = u32::try_from(env.tags.len()).map_err(|_| Memory)?;
@@ -129,11 +124,7 @@ pub fn struct_alone(
 /// # Errors
 ///
 /// `Twice` at the tag: its scope has it already; or memory ran out.
-pub fn enum_tag(
-    alloc: Global,
-    env: &mut Environment,
-    name: &Identifier,
-) -> Result<(), TypeFault>
+pub fn enum_tag(alloc: Global, env: &mut Environment, name: &Identifier) -> Result<(), TypeFault>
     ensures { Tells result env.new (spec.enum_tag name.now env.old) }
 {
     if env.tag_names.found_here(name.text.as_bytes()).is_some() {

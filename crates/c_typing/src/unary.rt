@@ -55,7 +55,10 @@ pub fn address_typing(
     }
     let of = Boxed::new(alloc, lvalue)?;
     let to = Boxed::new(alloc, ctype)?;
-    Ok(gives(TypedExpr::Address { place, of }, CType::Pointer(qualifier, to)))
+    Ok(gives(
+        TypedExpr::Address { place, of },
+        CType::Pointer(qualifier, to),
+    ))
 }
 
 /// Unary `*`.

@@ -145,7 +145,10 @@ pub fn pointees(left: &CType, right: &CType) -> Pointees
     ensures { result ≡ spec.pointees left.now right.now }
 {
     match (left, right) {
-        (CType::Pointer(_, to), CType::Pointer(_, of)) => compatible_if(same_type(to.get(), of.get())),
+        (CType::Pointer(_, to), CType::Pointer(_, of)) => compatible_if(same_type(
+            to.get(),
+            of.get(),
+        )),
         _ => Pointees::Incompatible,
     }
 }
@@ -153,7 +156,11 @@ pub fn pointees(left: &CType, right: &CType) -> Pointees
 fn compatible_if(same: bool) -> Pointees
     ensures { result ≡ spec.compatible_if same }
 {
-    if same { Pointees::Compatible } else { Pointees::Incompatible }
+    if same {
+        Pointees::Compatible
+    } else {
+        Pointees::Incompatible
+    }
 }
 
 /// Whether an object of the type `target` may hold a pointer of the type `value`: they point to one type, and no `const` of what is
@@ -165,7 +172,10 @@ pub fn admits(target: &CType, value: &CType) -> Pointees
         (CType::Pointer(Qualifier::Unqualified, _), CType::Pointer(Qualifier::Const, _)) => {
             Pointees::Incompatible
         }
-        (CType::Pointer(_, to), CType::Pointer(_, of)) => compatible_if(same_type(to.get(), of.get())),
+        (CType::Pointer(_, to), CType::Pointer(_, of)) => compatible_if(same_type(
+            to.get(),
+            of.get(),
+        )),
         _ => Pointees::Incompatible,
     }
 }

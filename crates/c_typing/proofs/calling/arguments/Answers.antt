@@ -29,4 +29,3 @@ loop-parameter-preserved c =
     ∙ argument_passes c.args.bracket c.args.parameters.now c.loop-parameter.parameter-index c.in-Some.value c.pop_front.new.self.items c.loop-parameter.values.items c.args.env.now c.loop-parameter.found
     c.in_ok-argument.field-0 c.loop-parameter-test.true c.in-Some.ensures.items c.in_ok-argument.ensures
     ∙ c.loop-parameter.invariant
-
