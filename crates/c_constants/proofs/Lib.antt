@@ -2,5 +2,3 @@
 pub mod Folding
 -- turns, one more at a time
 pub mod Turns
--- marks of lists
-pub mod Marking

@@ -2,5 +2,3 @@
 pub mod Views
 -- the number of turns that the head of a loop gives
 pub mod Counted
--- which objects are marked
-pub mod Marks

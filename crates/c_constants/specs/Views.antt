@@ -3,10 +3,9 @@ use Rattle.std.specs.Prelude.{ℕ, ◌==◌, Bool, not, if◌then◌else◌, Opt
 use Rattle.hy_bits.specs.Bits.{bit}
 use Rattle.hy_bits.specs.declared.scalar.Scalar.{Scalar}
 use Rattle.c_meaning.specs.declared.operators.ArithmeticSign.{ArithmeticSign}
-use Rattle.c_meaning.specs.declared.expressions.Lvalue.{Lvalue}
 use Rattle.c_meaning.specs.declared.expressions.ChainStep.{ChainStep}
 use Rattle.c_meaning.specs.declared.expressions.LogicalOperand.{LogicalOperand}
-use Rattle.c_meaning.specs.declared.expressions.Lvalue.TheFolds.{fold-Lvalue, fold-ChainStep, fold-LogicalOperand}
+use Rattle.c_meaning.specs.declared.expressions.Lvalue.TheFolds.{fold-ChainStep, fold-LogicalOperand}
 use Rattle.c_meaning.specs.Operations.{signed_by, undefined_sign}
 use Rattle.c_meaning.specs.Constants.{Constant, Variable, Faulty, Word, StepConstant, with_word, with_form, faulty_where, decides, lvalue_name_rule, constant_rule, step_constant_rule, operand_constant_rule}
 use Rattle.c_meaning.specs.Constants as constants
@@ -26,11 +25,6 @@ known_as None k = None
 known_as (Some known) k = just known.object known.word k
 
 -- ---- parts of expressions
-
--- the object that an lvalue names
-abbrev pub named_with : constants.Known → Lvalue → Option ℕ
-named_with known =
-    fold-Lvalue (Option ℕ) Constant StepConstant Constant lvalue_name_rule (constant_rule known) step_constant_rule operand_constant_rule
 
 -- what a step of a chain makes of what stands on its left
 abbrev pub step_folds : constants.Known → ChainStep → StepConstant

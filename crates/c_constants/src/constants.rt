@@ -4,13 +4,14 @@ ghost use Rattle.std.specs.Prelude.{◌≡◌, map, true, Option};
 ghost use Rattle.c_meaning.specs.Constants as meaning;
 ghost use Rattle.c_meaning.specs.Constants.{with_form, faulty_where, word_known, converted_constant, converted_where, combined_constant, step_constant, along_constants, decides, logical_constant, conditional_constant, constant_with, constant_of};
 ghost use Rattle.c_meaning.specs.Counting.{word_where};
-ghost use Rattle.c_constants.specs.Views.{as_constant, as_held, known_as, named_with, held_after, settled, truth_of, step_folds, operand_folds, sign_constant, not_constant};
+ghost use Rattle.c_uses.specs.Names.{named_with};
+ghost use Rattle.c_constants.specs.Views.{as_constant, as_held, known_as, held_after, settled, truth_of, step_folds, operand_folds, sign_constant, not_constant};
 
-use crate::names::named_object;
 use c_meaning::{
     ArithmeticSign, ChainStep, Conversion, IntegerOperation, LogicalOperand, Lvalue, Operation,
     TypedExpr, Undefined, apply_sign, compare, convert, operate, undefined, undefined_unary,
 };
+use c_uses::named_object;
 use hy_bits::Scalar;
 
 /// What an expression is where some words are known: no constant by its form, a constant whose run is undefined, or a word.

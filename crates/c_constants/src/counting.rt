@@ -10,11 +10,11 @@ ghost use Rattle.c_meaning.specs.declared.statements.TypedStatement.{TypedStatem
 ghost use Rattle.c_constants.specs.Counted.{as_read, lvalue_reads, step_as, step_where, turns_before, turns_counted, counted_by, counted_turns, IsUnchanged};
 
 use crate::constants::{Folded, Known, constant_word, fold_expr};
-use crate::names::named_object;
 use c_meaning::{
     ArithmeticOperator, ChainStep, Comparison, Controlling, IntegerOperation, Lvalue, Operation,
     Part, TypedDeclarator, TypedEffect, TypedExpr, TypedFirst, TypedStep, convert, operate,
 };
+use c_uses::named_object;
 use hy_bits::Scalar;
 use sqlite_items::Items;
 

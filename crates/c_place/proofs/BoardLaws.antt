@@ -70,7 +70,7 @@ module _ {region : ℕ} {old new : List Entry} (f : Extends region old new) wher
   cells_held-later layout ins (held.Pointer targets) fit =
       ap (λ (as' : List Aim). cell_of (aimed_at as') ∷ []) (aims-later ins targets.list.items fit.0.targets)
 
-  IsZero-later : (w : Width) (n : Node) → IsZero old w n → IsZero new w n
+  pub IsZero-later : (w : Width) (n : Node) → IsZero old w n → IsZero new w n
   IsZero-later w n z = record {
     stands = Stands-later f w n z.stands;
     zero = λ ins fit. worth-later f ins n z.stands.within ∙ z.zero ins (Extends-inputs_before f ins fit);
@@ -106,14 +106,14 @@ module _ {region : ℕ} {old new : List Entry} (f : Extends region old new) wher
 
 -- ---- a board of which one object is changed
 
-widths-stand : (es : List Entry) (ws : List Width) (ns : List Node) → AllStand es ws ns → map (λ (n : Node). width_at es n.index) ns ≡ ws
+pub widths-stand : (es : List Entry) (ws : List Width) (ns : List Node) → AllStand es ws ns → map (λ (n : Node). width_at es n.index) ns ≡ ws
 widths-stand es [] [] h = refl
 widths-stand es [] (n ∷ ns) h = absurd h
 widths-stand es (w ∷ ws) [] h = absurd h
 widths-stand es (w ∷ ws) (n ∷ ns) h =
     ap (λ (v : Width). v ∷ map (λ (n : Node). width_at es n.index) ns) h.0.width ∙ ap (λ (vs : List Width). w ∷ vs) (widths-stand es ws ns h.1)
 
-within-stand : (es : List Entry) (ws : List Width) (ns : List Node) → AllStand es ws ns → All (λ (n : Node). n.index < length es) ns
+pub within-stand : (es : List Entry) (ws : List Width) (ns : List Node) → AllStand es ws ns → All (λ (n : Node). n.index < length es) ns
 within-stand es [] [] h = λ k d j. absurd (omega arith)
 within-stand es [] (n ∷ ns) h = absurd h
 within-stand es (w ∷ ws) [] h = absurd h
@@ -124,10 +124,10 @@ within-stand es (w ∷ ws) (n ∷ ns) h = both h.0.within (within-stand es ws ns
     both p ps (suc k) d j = ps k d (omega arith)
 
 -- an element changed to what f tells alike
-map-set-alike : {A B : Type 0} (f : A → B) (xs : List A) (k : ℕ) (x : A) (d : B) → f x ≡ get_or (map f xs) k d → map f (set xs k x) ≡ map f xs
+pub map-set-alike : {A B : Type 0} (f : A → B) (xs : List A) (k : ℕ) (x : A) (d : B) → f x ≡ get_or (map f xs) k d → map f (set xs k x) ≡ map f xs
 map-set-alike {A} {B} f xs k x d e = map-set f xs k x ∙ ap (λ (y : B). set (map f xs) k y) e ∙ set-get_or (map f xs) k d
 
-All-set : {A : Type 0} (P : A → Type 0) (xs : List A) (k : ℕ) (x : A) → All P xs → P x → All P (set xs k x)
+pub All-set : {A : Type 0} (P : A → Type 0) (xs : List A) (k : ℕ) (x : A) → All P xs → P x → All P (set xs k x)
 All-set P [] k x h p = h
 All-set P (y ∷ xs) zero x h p = first
   where

@@ -12,3 +12,11 @@ pub mod TargetLaws
 pub mod BoardLaws
 -- equality of pointers by their objects and cells
 pub mod SameLaws
+-- tables of places
+pub mod TableLaws
+-- one of two lists of targets
+pub mod ChoiceLaws
+-- boards of which one pointer is changed
+pub mod PointerLaws
+-- parts of elements
+pub mod PartLaws

@@ -65,7 +65,7 @@ cell-aimed (a ∷ more) one words = here (cell-aimed more (omega arith) (λ k d 
     here rest false g = rw g rest
 
 -- a pointer is null where no target is there
-aimed-null : (xs : List Aim) → aims_there xs ≡ 0 → aimed_at xs ≡ None
+pub aimed-null : (xs : List Aim) → aims_there xs ≡ 0 → aimed_at xs ≡ None
 aimed-null [] e = refl
 aimed-null (a ∷ more) e =
     let off : (a.guard == 1) ≡ false = grind (arith, common_steps) in

@@ -1,6 +1,6 @@
 -- What pointers stand for where the inputs are given (C11 6.5.2.1, 6.5.6): lists of targets, of which at most one is there.
-use Rattle.std.specs.Prelude.{◌≡◌, ℕ, ◌+◌, ◌*◌, ◌%◌, ◌^◌, ◌==◌, ◌&&◌, Bool, if◌then◌else◌, nat_lt, List, [], ◌∷◌, map, Some, None}
-use Rattle.std.specs.List.{All}
+use Rattle.std.specs.Prelude.{◌≡◌, ℕ, ◌+◌, ◌*◌, ◌%◌, ◌^◌, ◌==◌, ◌&&◌, Bool, if◌then◌else◌, nat_lt, ◌≢◌, ◌<◌, ◌⊎◌, List, [], ◌∷◌, length, map, slice_get, Some, None}
+use Rattle.std.specs.List.{All, Contains}
 use Rattle.hy_bits.specs.Words.{signed}
 use Rattle.hy_bits.specs.declared.width.Width.TheVariants.{W1, W64}
 use Rattle.word_graph.specs.declared.entry.Entry.{Entry}
@@ -8,6 +8,7 @@ use Rattle.word_graph.specs.Meaning.{InputsFit}
 use Rattle.word_nodes.specs.Nodes.{Stands, worth}
 use Rattle.c_meaning.specs.declared.values.Pointer.{Pointer}
 use Rattle.c_meaning.specs.State.{Address}
+use Rattle.c_place.specs.declared.targets.Place.{Place}
 use Rattle.c_place.specs.declared.targets.Target.{Target}
 use Rattle.c_place.specs.declared.targets.Targets.{Targets}
 
@@ -82,3 +83,20 @@ pub record IsPointer (es : List Entry) (p : Targets) : Type 0 where
   pub null : Stands es W1 p.null
   pub targets : All (IsTarget es) p.list.items
   pub one : (ins : List ℕ) → InputsFit es ins → worth es ins p.null + aims_there (aims es ins p.list.items) ≡ 1
+
+-- ---- places
+
+-- the place of a target, whatever its guard and its index are
+abbrev pub place_of : Target → Place
+place_of t = record { object = t.object; first = t.first; size = t.size; length = t.length }
+
+abbrev pub places_of : List Target → List Place
+places_of ts = map place_of ts
+
+-- no place is named twice
+abbrev pub AreApart : List Place → Type 0
+AreApart ps = (i j : ℕ) → i < j → j < length ps → slice_get ps i ≢ slice_get ps j
+
+-- the target has a place of one of two lists
+abbrev pub IsPlacedIn : List Target → List Target → Target → Type 0
+IsPlacedIn xs ys t = Contains (places_of xs) (place_of t) ⊎ Contains (places_of ys) (place_of t)

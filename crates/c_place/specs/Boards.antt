@@ -12,6 +12,7 @@ use Rattle.c_meaning.specs.declared.values.Cell.{Cell}
 use Rattle.c_meaning.specs.declared.values.Cell.TheVariants as cell
 use Rattle.c_meaning.specs.State.{cell_of}
 use Rattle.c_place.specs.declared.targets.Target.{Target}
+use Rattle.c_place.specs.declared.targets.Targets.{Targets}
 use Rattle.c_place.specs.declared.cells.Held.{Held}
 use Rattle.c_place.specs.declared.cells.Held.TheVariants as held
 use Rattle.c_place.specs.declared.cells.Board.{Board}
@@ -68,6 +69,23 @@ nodes_in (Some (held.Pointer targets)) = []
 -- the nodes of an object's cells, of which a pointer has none
 abbrev pub nodes_of : Board → ℕ → List Node
 nodes_of board k = nodes_in (slice_get board.objects.items k)
+
+-- the pointer that an object is, where it is one
+abbrev pub pointer_in : Option Held → Option Targets
+pointer_in None = None
+pointer_in (Some (held.Words nodes)) = None
+pointer_in (Some (held.Pointer targets)) = Some targets
+
+abbrev pub pointer_at : Board → ℕ → Option Targets
+pointer_at board k = pointer_in (slice_get board.objects.items k)
+
+abbrev pub list_in : Option Targets → List Target
+list_in None = []
+list_in (Some p) = p.list.items
+
+-- the targets of a pointer object
+abbrev pub targets_at : Board → ℕ → List Target
+targets_at board k = list_in (pointer_at board k)
 
 -- the zero of a width
 abbrev pub zero_of : Board → Width → Node

@@ -1,3 +1,5 @@
 pub mod Aims
 pub mod Boards
 pub mod Accesses
+pub mod Choices
+pub mod Parts

@@ -8,7 +8,7 @@ ghost use Rattle.word_graph.specs.Shape.{constant_at};
 ghost use Rattle.word_graph.specs.Size.{graph_size};
 ghost use Rattle.word_nodes.specs.Nodes.{Stands, AllStand, Extends, IsFull, worth, worths};
 ghost use Rattle.c_place.specs.Aims.{IsPointer, IsTarget, address, aim};
-ghost use Rattle.c_place.specs.Boards.{IsBoard, LiesIn, layout, objects_held, widths_at};
+ghost use Rattle.c_place.specs.Boards.{IsBoard, LiesIn, layout, objects_held, pointer_at, widths_at};
 ghost use Rattle.c_place.specs.Accesses.{IsEasy, ReadsAs, cell_at, placed, reach, words_written, written_where};
 
 use crate::cells::Cells;
@@ -141,6 +141,7 @@ impl Cells {
         ensures board { OnOk result (IsBoard graph.new self.new) }
         ensures layout { OnOk result (layout graph.new self.new ≡ layout graph.old self.old) }
         ensures objects { OnOk result ((ins : List ℕ) → InputsFit graph.old ins → objects_held graph.new ins self.new ≡ written_where (worth graph.old ins guard) (objects_held graph.old ins self.old) offset (worths graph.old ins values.now) (aim graph.old ins target.now)) }
+        ensures pointers { OnOk result ((k : ℕ) → pointer_at self.new k ≡ pointer_at self.old k) }
         ensures extends { Extends region graph.old graph.new }
         ensures nodes { length graph.new ≤ length graph.old + 1 + target.now.length * (3 + length widths.now) }
         ensures gates { graph_size graph.new ≤ graph_size graph.old + 4 + target.now.length * (260 + 256 * length widths.now) }
@@ -185,6 +186,7 @@ impl Cells {
         ensures board { OnOk result (IsBoard graph.new self.new) }
         ensures layout { OnOk result (layout graph.new self.new ≡ layout graph.old self.old) }
         ensures objects { OnOk result ((ins : List ℕ) → InputsFit graph.old ins → objects_held graph.new ins self.new ≡ if worth graph.old ins guard == 1 then words_written (objects_held graph.old ins self.old) (address graph.old ins to.now) offset (worths graph.old ins values.now) else objects_held graph.old ins self.old) }
+        ensures pointers { OnOk result ((k : ℕ) → pointer_at self.new k ≡ pointer_at self.old k) }
 
         // The nodes, also after an Err: fewer where the only target's index is a constant.
         ensures extends { Extends region graph.old graph.new }

@@ -94,6 +94,7 @@ loop-target-preserved c =
       few = rw add-one (All-suc (λ (t : Target). t.length ≤ 2 ^ 63) c.args.to.now.list.items c.loop-target.target-index no_target c.loop-target.invariant.few within (omega (arith, rw same_items at c.in_ok-store_target.ensures.range)));
       board = c.in_ok-store_target.ensures.board;
       layout = c.in_ok-store_target.ensures.layout ∙ c.loop-target.invariant.layout;
+      pointers = λ k. c.in_ok-store_target.ensures.pointers k ∙ c.loop-target.invariant.pointers k;
       objects = λ ins fit.
           let ts = c.args.to.now.list.items in
           let guard = worth c.args.graph.now ins c.args.guard in

@@ -5,7 +5,7 @@ use Rattle.word_graph.specs.Size.{graph_size}
 use Rattle.word_nodes.specs.Nodes.{Extends, worth, worths}
 use Rattle.c_place.specs.declared.targets.Target.{Target}
 use Rattle.c_place.specs.Aims.{aim}
-use Rattle.c_place.specs.Boards.{IsBoard, layout, objects_held}
+use Rattle.c_place.specs.Boards.{IsBoard, layout, objects_held, pointer_at}
 use Rattle.c_place.specs.Accesses.{IsEasy, reach}
 use Rattle.c_place.proofs.BoardLaws.{scattered}
 use Rattle.c_place.proofs.cells.Cells.store.Given as goal
@@ -19,5 +19,6 @@ invariant-loop-target l = record {
   few : All (λ (t : Target). t.length ≤ 2 ^ 63) (take l.target-index l.fn.to.list.items);
   board : IsBoard l.graph l.self;
   layout : layout l.graph l.self ≡ layout l.fn.graph l.fn.self;
+  pointers : (k : ℕ) → pointer_at l.self k ≡ pointer_at l.fn.self k;
   objects : (ins : List ℕ) → InputsFit l.fn.graph ins → objects_held l.graph ins l.self ≡ scattered (worth l.fn.graph ins l.guard) (objects_held l.fn.graph ins l.fn.self) l.offset (worths l.fn.graph ins l.values) (map (aim l.fn.graph ins) (take l.target-index l.fn.to.list.items));
 }

@@ -8,6 +8,7 @@ use Rattle.c_place.specs.Accesses.{cell_at}
 use Rattle.c_place.proofs.ReadLaws.{held-cells}
 use Rattle.c_place.proofs.TargetLaws.{target-stands, target-room}
 use Rattle.c_place.proofs.BoardLaws.{changed-layout, changed-board, changed-objects, objects-chosen, hits-same, cells-worths}
+use Rattle.c_place.proofs.PointerLaws.{pointers-kept}
 use Rattle.c_place.proofs.cells.Cells.store_target.Goals as goal
 
 pub store_hits-requires-clause-values : goal.store_hits-requires-clause-values
@@ -73,3 +74,8 @@ returns-clause-objects c = λ ins fit.
     (worths-later one ins c.args.widths.now c.args.values.now c.requires.values)))
     ∙ objects-chosen _ objects c.args.target.now.object (worths c.args.graph.now ins nodes) (worths c.args.graph.now ins c.args.values.now) _
     (held-cells c.args.graph.now ins c.args.self.now.objects.items c.args.target.now.object lies.0 lies.1 ∙ cells-worths c.args.graph.now ins nodes)
+
+pub returns-clause-pointers : goal.returns-clause-pointers
+returns-clause-pointers c =
+    pointers-kept c.args.graph.now c.args.self.now.objects.items c.put_nodes.new.self.objects.items c.args.target.now.object c.requires.lies.0 c.take_nodes-cells.ensures.object.0 c.store_hits.new.cells
+    c.requires.lies.1 (rw c.take_nodes-cells.ensures.object.1 at c.put_nodes.ensures.objects)

@@ -1,0 +1,2 @@
+-- nodes that stand while a graph grows
+pub mod FixtureLaws

@@ -1,0 +1,5 @@
+pub mod CodeLaws
+pub mod ModuleLaws
+pub mod InputLaws
+pub mod TakerLaws
+pub mod OwnerLaws

@@ -1,0 +1,9 @@
+pub mod Held
+pub mod Inputs
+pub mod Takers
+pub mod Owned
+pub mod Leaves
+pub mod Modules
+pub mod Inbound
+pub mod Planned
+pub mod Answers
