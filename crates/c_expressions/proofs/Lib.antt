@@ -1,0 +1,4 @@
+-- walks along lists
+mod Running
+-- members of one type
+mod Members
