@@ -5,6 +5,8 @@
 //!
 //! - `figures_of` gives these numbers exactly, for every list of instructions and gates, or wants memory (`src/figures.rt`; read
 //!   `specs/Figures.antt`, then `specs/Sizes.antt`, `specs/Dealing.antt` and `specs/Levels.antt` of share_core).
+//! - `gates_of` gives the gates of a level, and `is_level` tells whether an instruction is one (`src/sizes.rt`; read `specs/Levels.antt` of
+//!   share_core).
 //!
 //! A number that 64 bits don't hold is answered as want of memory: no plan in memory has one.
 #![tactic(auto)]
@@ -14,3 +16,4 @@ mod sizes;
 mod stretches;
 
 pub use figures::{Figures, figures_of};
+pub use sizes::{gates_of, is_level};

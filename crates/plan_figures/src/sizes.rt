@@ -23,7 +23,7 @@ pub fn sum(a: u64, b: u64) -> Result<u64, Memory>
 }
 
 /// The gates of a level.
-fn gates_of<'g>(level: &Instr, gates: &'g [Instr]) -> &'g [Instr]
+pub fn gates_of<'g>(level: &Instr, gates: &'g [Instr]) -> &'g [Instr]
     ensures { result.now ≡ gates_of level.now gates.now }
 {
     let left = level.left as usize;
@@ -38,7 +38,7 @@ fn gates_of<'g>(level: &Instr, gates: &'g [Instr]) -> &'g [Instr]
 }
 
 /// Whether an instruction is a level.
-fn is_level(kind: InstrKind) -> bool
+pub fn is_level(kind: InstrKind) -> bool
     ensures { result ≡ is_level kind }
 {
     match kind {

@@ -1,0 +1,4 @@
+-- the depths of types, by which a walk over them ends
+mod Depths
+-- the shapes of structs
+mod ShapeLaws

@@ -1,0 +1,2 @@
+-- the shapes of structs
+pub mod Structs

@@ -1,0 +1,5 @@
+pub mod ClapRules
+pub mod ClapMatches
+pub mod ClapParse
+pub mod ClapWalk
+pub mod RequestLaws

@@ -1,0 +1,5 @@
+pub mod Commands
+pub mod Parser
+pub mod Readings
+pub mod Request
+pub mod Words

@@ -1,0 +1,5 @@
+pub mod LifeLaws
+pub mod AllocationLaws
+pub mod LastLaws
+pub mod OperandLaws
+pub mod MemoryLaws
