@@ -199,8 +199,12 @@ fn declarator(
 }
 
 /// The numbers of elements that dimensions give.
+///
+/// # Errors
+///
+/// `Mismatch` at a bracket: its dimension is empty. Otherwise as of [`specifiers`].
 #[cycle(typing)]
-fn dimensions(
+pub fn dimensions(
     alloc: Global,
     env: &mut Environment,
     list: &[Dimension],
@@ -215,12 +219,8 @@ fn dimensions(
 }
 
 /// The number of elements that a dimension gives.
-///
-/// # Errors
-///
-/// `Mismatch` at the bracket: the dimension is empty. Otherwise as of [`specifiers`].
 #[cycle(typing)]
-pub fn dimension_of(alloc: Global, env: &mut Environment, of: &Dimension) -> Result<u32, TypeFault>
+fn dimension_of(alloc: Global, env: &mut Environment, of: &Dimension) -> Result<u32, TypeFault>
     ensures { Tells result env.new (spec.types_dimension of.now env.old) }
 {
     match &of.size {

@@ -11,6 +11,7 @@
 //! |---|---|---|---|
 //! | [`name_typing`], [`literal_typing`], [`calls`], [`subscript`], [`member_typing`], [`arrow_typing`], [`address_typing`], [`indirection_typing`], [`not_typing`], [`sign_typing`], [`cast_from`], [`combine`], [`choose`] | an expression's type with its conversions, by its parts, or how a rule is broken and where | `src/names.rt`, `src/calling.rt`, `src/postfix.rt`, `src/unary.rt`, `src/chains.rt`, `src/conditional.rt` | `specs/Walks.antt`, `specs/Values.antt`, `specs/Expressions.antt` |
 //! | [`assigned_to`] | a value made one of an object's type, or how it doesn't fit | `src/names.rt` | `specs/Values.antt`, `specs/Expressions.antt` |
+//! | [`value`], [`scalar`], [`kind_operand`], [`converted`] | an expression in a value's place, what it is to an operator, and a conversion written out | `src/values.rt` | `specs/Values.antt` |
 //! | [`type_name_typing`], [`qualified`], [`object_type`], [`struct_reference`], [`enum_reference`], [`struct_alone`], [`enum_tag`], [`open_struct`], [`add_member`], [`close_struct`], [`int_constant`], [`next_word`], [`dimension`], [`array_of`] | the type that specifiers name, what they declare, or how a rule is broken and where | `src/specifiers.rt`, `src/tags.rt`, `src/structs.rt` | `specs/Walks.antt`, `specs/Specifiers.antt` |
 //!
 //! Crates above can import `proofs/WalkLaws.antt`.
@@ -43,4 +44,4 @@ pub use tags::{
     struct_reference,
 };
 pub use unary::{address_typing, cast_from, indirection_typing, not_typing, sign_typing};
-pub use values::{TypedValue, Typing, value};
+pub use values::{TypedValue, Typing, converted, kind_operand, scalar, value};
