@@ -44,7 +44,7 @@ use Rattle.c_meaning.specs.declared.statements.TypedItem.TheViews.{out-TypedSect
 use Rattle.c_meaning.specs.declared.statements.TypedItem.TheOpen.{TypedItem-F, TypedIteration-F, TypedSelection-F, TypedStatement-F, TypedBlock-F, TypedSection-F}
 use Rattle.c_meaning.specs.declared.statements.TypedItem.TheFolds.{every-TypedBlock, fold-TypedBlock}
 use Rattle.c_meaning.specs.Operations.{left_type, right_type}
-use Rattle.c_meaning.specs.Types.{cells_of, struct_cells, kind_of, shape_of, struct_shapes}
+use Rattle.c_meaning.specs.Types.{cells_of, struct_cells, scalars_of, struct_scalars, kind_of, shape_of, struct_shapes}
 use Rattle.c_meaning.specs.Sizes.{promoted}
 use Rattle.c_meaning.specs.SizeFolds.{program_size, saturated, is_pointer}
 use Rattle.c_meaning.specs.Uses.{assigned_in, taken_by}
@@ -297,15 +297,26 @@ abbrev pub StructsFit : List ℕ → ℕ → List StructType → Type 0
 StructsFit structs below [] = Unit {0}
 StructsFit structs below (s ∷ ss) = IsStruct structs below s × StructsFit structs (below + 1) ss
 
--- C11 6.7.9p4, p10: the words of an object of file scope
-abbrev pub StartWords : Object → Option (List ℕ) → Type 0
-StartWords object None = Unit {0}
-StartWords object (Some words) = (length words ≡ object.cells) × (kind_of object.ctype ≡ kind.Pointer → words ≡ 0 ∷ [])
+-- a word of the type of each cell
+abbrev pub WordsFit : List Scalar → List ℕ → Type 0
+WordsFit [] [] = Unit {0}
+WordsFit [] (w ∷ ws) = ⊥
+WordsFit (t ∷ ts) [] = ⊥
+WordsFit (t ∷ ts) (w ∷ ws) = IsWord (scalar_width t) w × WordsFit ts ws
+
+abbrev pub layer_start_words : List StructType → CType → CType-F CType → List ℕ → Type 0
+layer_start_words structs c (CType-F.Pointer qualifier to) words = words ≡ 0 ∷ []
+layer_start_words structs c other words = WordsFit (scalars_of (struct_scalars structs) c) words
+
+-- C11 6.7.9p4, p10: the words of an object of file scope, a null pointer's 0 among them
+abbrev pub StartWords : List StructType → Object → Option (List ℕ) → Type 0
+StartWords structs object None = Unit {0}
+StartWords structs object (Some words) = (length words ≡ object.cells) × layer_start_words structs object.ctype (out-CType object.ctype) words
 
 pub record IsObject (structs : List StructType) (object : Object) : Type 0 where
   pub typed : is_object_type (length structs) object.ctype ≡ true
   pub cells : object.cells ≡ cells_of (struct_cells structs) object.ctype
-  pub start : StartWords object object.start
+  pub start : StartWords structs object object.start
 
 abbrev pub ObjectsFit : List StructType → List Object → Type 0
 ObjectsFit structs [] = Unit {0}
@@ -317,9 +328,11 @@ cells_in (object ∷ objects) = object.cells + cells_in objects
 
 -- ---- functions
 
-abbrev pub AreAutomatic : List Object → List ℕ → Type 0
-AreAutomatic objects [] = Unit {0}
-AreAutomatic objects (k ∷ ks) = ((object : Object) × (slice_get objects k ≡ Some object) × (object.start ≡ None)) × AreAutomatic objects ks
+-- C11 6.7.6.3p7, 6.9.1p7: a parameter is an object of its own, an integer, a pointer or a struct
+abbrev pub AreParameters : List Object → List ℕ → Type 0
+AreParameters objects [] = Unit {0}
+AreParameters objects (k ∷ ks) =
+    ((object : Object) × (slice_get objects k ≡ Some object) × (object.start ≡ None) × (kind_of object.ctype ≢ kind.Void)) × AreParameters objects ks
 
 -- C11 6.9.1p3: the result is void or an object's type without an array
 abbrev pub layer_is_result : ℕ → CType-F CType → Bool
@@ -335,7 +348,7 @@ is_result below c = layer_is_result below (out-CType c)
 -- a function, by those that stand before it
 pub record IsFunction (scope : Scope) (f : TypedFunction) : Type 0 where
   pub result : is_result (length scope.structs) f.result ≡ true
-  pub params : AreAutomatic scope.objects f.params
+  pub params : AreParameters scope.objects f.params
   pub body : IsTypedBlock (record { scope = scope; result = f.result; taken = taken_by f.body }) f.body
   pub jumps : jumps_of f.body ≡ no_jumps
 

@@ -1,5 +1,6 @@
 -- Types (C11 6.2.5): their cells, their values, and the shapes of what goes in and comes out.
-use Rattle.std.specs.Prelude.{ℕ, ◌*◌, Option, None, Some, option_map, List, [], ◌∷◌, ◌++◌, map, get_or}
+use Rattle.std.specs.Prelude.{ℕ, zero, suc, ◌*◌, Option, None, Some, option_map, List, [], ◌∷◌, ◌++◌, map, get_or}
+use Rattle.hy_bits.specs.declared.scalar.Scalar.{Scalar}
 use Rattle.hy_bits.specs.declared.shape.Field.{Field}
 use Rattle.hy_bits.specs.declared.shape.Shape.{Shape}
 use Rattle.hy_bits.specs.declared.shape.Shape.TheVariants as shape
@@ -29,6 +30,36 @@ layer_cells structs (CType-F.Pointer qualifier to) = 1
 -- a scalar or a pointer has one
 abbrev pub cells_of : List ℕ → CType → ℕ
 cells_of structs = fold-CType ℕ (layer_cells structs)
+
+-- ---- the integers in the cells of a type without pointers
+
+-- a list so many times
+abbrev pub repeated : {A : Type 0} → ℕ → List A → List A
+repeated zero items = []
+repeated (suc n) items = items ++ repeated n items
+
+abbrev pub layer_scalars : List (List Scalar) → CType-F (List Scalar) → List Scalar
+layer_scalars structs CType-F.Void = []
+layer_scalars structs (CType-F.Int t) = t ∷ []
+layer_scalars structs (CType-F.Array count element) = repeated count element
+layer_scalars structs (CType-F.Struct number) = get_or structs number []
+layer_scalars structs (CType-F.Pointer qualifier to) = []
+
+-- the type of each cell
+abbrev pub scalars_of : List (List Scalar) → CType → List Scalar
+scalars_of structs = fold-CType (List Scalar) (layer_scalars structs)
+
+abbrev pub member_scalars : List (List Scalar) → List Member → List Scalar
+member_scalars structs [] = []
+member_scalars structs (member ∷ members) = scalars_of structs member.ctype ++ member_scalars structs members
+
+-- those of structs, each by those before it
+abbrev pub scalars_after : List (List Scalar) → List StructType → List (List Scalar)
+scalars_after before [] = before
+scalars_after before (s ∷ ss) = scalars_after (before ++ member_scalars before s.members ∷ []) ss
+
+abbrev pub struct_scalars : List StructType → List (List Scalar)
+struct_scalars structs = scalars_after [] structs
 
 -- ---- values
 
