@@ -2,3 +2,5 @@
 mod Depths
 -- the shapes of structs
 mod ShapeLaws
+-- the cells of structs
+mod ScalarLaws

@@ -54,7 +54,7 @@ length_later : (before : List (Option Shape)) (ss : List StructType) → length 
 length_later before [] = refl
 length_later before (s ∷ ss) = ap suc (length_later (before ++ struct_shape before s.members ∷ []) ss)
 
-min_is : (a b : ℕ) → (min a b ≤ a) × (min a b ≤ b)
+pub min_is : (a b : ℕ) → (min a b ≤ a) × (min a b ≤ b)
 min_is a b = grind arith
 
 past : {A : Type 0} (xs : List (Option A)) (i : ℕ) → length xs ≤ i → get_or xs i None ≡ None
@@ -62,7 +62,7 @@ past [] i h = refl
 past (x ∷ xs) zero h = absurd (omega (arith, h))
 past (x ∷ xs) (suc i) h = past xs i (omega (arith, h))
 
-none_past : {A : Type 0} (xs : List A) (i : ℕ) → slice_get xs i ≡ None → length xs ≤ i
+pub none_past : {A : Type 0} (xs : List A) (i : ℕ) → slice_get xs i ≡ None → length xs ≤ i
 none_past [] i h = omega arith
 none_past (x ∷ xs) zero h = absurd (cc)
 none_past (x ∷ xs) (suc i) h = omega (arith, none_past xs i h)

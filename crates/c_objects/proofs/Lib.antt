@@ -1,0 +1,2 @@
+-- the words of objects of file scope
+mod Words
