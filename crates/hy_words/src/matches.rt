@@ -1,9 +1,9 @@
-ghost use Rattle.std.specs.Prelude.{◌≡◌, ◌≢◌, ◌<◌, false, map, drop, length, IfOk, Some, None};
+ghost use Rattle.std.specs.Prelude.{◌≡◌, ◌≢◌, ◌<◌, [], false, map, drop, length, IfOk, Some, None};
 ghost use Rattle.std.specs.String.{string_bytes};
 ghost use Rattle.clap.specs.Words.{app_of, rule_of};
 ghost use Rattle.hy_words.specs.Words.{Text, Values, given, value_of};
 ghost use Rattle.hy_words.specs.Commands.{syntax_of};
-ghost use Rattle.hy_words.specs.Parser.{app_for, found_in, option_rule, positional_rule};
+ghost use Rattle.hy_words.specs.Parser.{app_for, app_with, found_in, option_rule, positional_rule};
 ghost use Rattle.hy_words.specs.declared.fault.WordsFault.TheVariants.{NoRequest};
 
 use crate::command::Command;
@@ -52,7 +52,7 @@ fn parser_of<'a>(
 ) -> Result<clap::Command<'a>, AllocError>
     ensures { IfOk result (λ parser. app_of parser ≡ app_for name.entry.now (syntax_of command)) }
 {
-    let mut parser = clap::Command::new(alloc, name).disable_help_flag(true);
+    let mut parser = bare_parser(alloc, name);
     for positional in command.positionals() {
         let name: &'a str = positional;
         parser = parser.arg(positional_argument(alloc, name))?;
@@ -62,6 +62,13 @@ fn parser_of<'a>(
         parser = parser.arg(option_argument(alloc, name))?;
     }
     Ok(parser)
+}
+
+/// A `clap` command without arguments, and without help.
+fn bare_parser<'a>(alloc: Global, name: &'a str) -> clap::Command<'a>
+    ensures { app_of result ≡ app_with name.entry.now [] }
+{
+    clap::Command::new(alloc, name).disable_help_flag(true)
 }
 
 /// The argument of a positional word.

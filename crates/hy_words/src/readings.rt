@@ -1,8 +1,9 @@
-ghost use Rattle.std.specs.Prelude.{◌≡◌, ◌≢◌, [], ◌∷◌, IfOk, codes};
+ghost use Rattle.std.specs.Prelude.{◌≡◌, ◌≢◌, ◌&&◌, [], ◌∷◌, nat_le, IfOk, codes};
 ghost use Rattle.std.specs.String.{string_bytes};
 ghost use Rattle.hy_words.specs.Parser.{found_in};
 ghost use Rattle.hy_words.specs.Readings.{number_within, role_in, role_of_letter, seed_in, turns_in};
 ghost use Rattle.hy_words.specs.Request.{bound_by, layers_by, module_by, number_by, role_by, seed_by, turns_by};
+ghost use Rattle.hy_bits.specs.Ports.{turn_limit};
 ghost use Rattle.hy_bits.specs.declared.turns.Role.TheVariants.{P0, P1};
 ghost use Rattle.hy_words.specs.declared.fault.WordsFault.TheVariants.{NoRequest};
 
@@ -130,7 +131,7 @@ fn turns_of(alloc: Global, text: &str) -> Result<Turns, WordsFault>
     ensures none { result ≡ Err NoRequest → turns_in text.now ≡ None }
 {
     let letters = text.as_bytes();
-    if letters.is_empty() || letters.len() > TURN_LIMIT {
+    if !is_count_of_turns(letters.len()) {
         return Err(WordsFault::NoRequest);
     }
     let mut roles = Vec::with_capacity(alloc, letters.len())?;
@@ -141,6 +142,13 @@ fn turns_of(alloc: Global, text: &str) -> Result<Turns, WordsFault>
         roles.push(role)?;
     }
     Ok(Turns::new(roles))
+}
+
+/// Whether a list of turns may have `count` of them.
+fn is_count_of_turns(count: usize) -> bool
+    ensures { result ≡ (nat_le 1 count && nat_le count turn_limit) }
+{
+    1 <= count && count <= TURN_LIMIT
 }
 
 /// The role of a letter, `a` or `b`.
