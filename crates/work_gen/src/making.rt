@@ -14,6 +14,7 @@ use std::alloc::Global;
 /// # Errors
 ///
 /// Memory ran out.
+#[tactic(auto, using(crate::proofs::Fixed::query_is, crate::proofs::Fixed::table_is))]
 pub fn work(alloc: Global, number: u32) -> Result<Work, Memory>
     requires least { 1 ≤ number }
     requires most { number ≤ work_limit }
