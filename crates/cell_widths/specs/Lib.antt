@@ -1,0 +1,2 @@
+-- the widths of the cells of types
+pub mod Widths

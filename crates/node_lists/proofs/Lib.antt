@@ -1,0 +1,2 @@
+-- inputs as nodes
+mod InputLaws

@@ -1,0 +1,2 @@
+-- words of inputs and constants
+pub mod Lists
