@@ -1,2 +1,2 @@
--- inputs as nodes
-mod InputLaws
+-- inputs as nodes, and lists of nodes while a graph grows
+pub mod InputLaws

@@ -27,7 +27,7 @@ use word_nodes::constant;
 /// # Errors
 ///
 /// `NodeLimit` where the graph is full, and `Memory`. The graph is as before.
-#[tactic(auto, using(crate::proofs::InputLaws::full, crate::proofs::InputLaws::is_input, crate::proofs::InputLaws::still_fit))]
+#[tactic(auto, using(crate::proofs::InputLaws::full, crate::proofs::InputLaws::still_fit))]
 pub fn input(graph: &mut Graph, width: Width, number: u64) -> Result<Node, GraphFault>
     ensures stands { IfOk result (Stands graph.new width) }
     ensures value { IfOk result (IsInput graph.new number) }
