@@ -1,4 +1,4 @@
--- In a typed program a type has as many integers as cells, and each of its arrays some.
+-- In a typed program a type has as many integers as cells.
 use Rattle.std.proofs.Common.{◌≡◌, ℕ, zero, suc, ◌+◌, ◌*◌, ◌<◌, ◌≤◌, ◌&&◌, nat_lt, nat_le, Bool, true, false, List, [], ◌∷◌, ◌++◌, map, take, length, get_or, length-append, append_assoc, ap, sym, subst, ◌∙◌, refl, arith}
 use Rattle.std.proofs.Math.Seq.{get_or-append_seam}
 use Rattle.std.proofs.lemmas.Grind.{common_steps}
@@ -6,7 +6,6 @@ use Rattle.std.proofs.lemmas.List.{get_or_append_left, length-map, length_push}
 use Rattle.hy_bits.specs.declared.scalar.Scalar.{Scalar}
 use Rattle.hy_bits.specs.Scalar.{scalar_width}
 use Rattle.c_meaning.specs.declared.types.CType as C
-use Rattle.c_meaning.specs.declared.types.CType.TheVariants as ctype
 use Rattle.c_meaning.specs.declared.types.CType.TheOpen.{CType-F}
 use Rattle.c_meaning.specs.declared.types.CType.TheFolds.{ind-CType, fold-roll-CType}
 use Rattle.c_meaning.specs.declared.types.Member.{Member}
@@ -113,12 +112,3 @@ structs_count structs fit = λ k h. table [] [] structs refl (λ j i. absurd (om
 pub widths_count : (structs : List StructType) → StructsFit (struct_cells structs) 0 structs → (c : C.CType) → is_plain (length structs) c ≡ true → length (widths_of structs c) ≡ cells_of (struct_cells structs) c
 widths_count structs fit c plain =
     length-map (scalars_of (struct_scalars structs) c) scalar_width ∙ type_count (struct_scalars structs) (struct_cells structs) (length structs) (structs_count structs fit) c plain
-
--- and an array some elements, and so many times their cells
-pub array_count : (structs : List StructType) (cells : List ℕ) (c : C.CType) (count : ℕ) (element : C.CType) → c ≡ ctype.Array count element → is_plain (length structs) c ≡ true
-    → (1 ≤ count) × (cells_of cells c ≡ count * cells_of cells element)
-array_count structs cells c count element is plain =
-    let whole : is_plain (length structs) c ≡ (nat_le 1 count && nat_le count most_elements && is_plain (length structs) element) =
-    ap (is_plain (length structs)) (is ∙ sym (ctype.rolls-Array count element)) ∙ fold-roll-CType Bool (layer_is_plain (length structs)) (CType-F.Array count element) in
-    let some : 1 ≤ count = grind (arith, common_steps) in
-    (some, ap (cells_of cells) (is ∙ sym (ctype.rolls-Array count element)) ∙ fold-roll-CType ℕ (layer_cells cells) (CType-F.Array count element))

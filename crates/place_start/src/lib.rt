@@ -12,4 +12,3 @@ mod arguments;
 mod starting;
 
 pub use arguments::Argument;
-pub use starting::start;

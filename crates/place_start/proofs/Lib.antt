@@ -1,0 +1,4 @@
+-- objects, and parameters that get their words
+pub mod StepLaws
+-- what the rules of types say of objects and parameters
+pub mod TypedLaws
