@@ -1,5 +1,5 @@
 -- Objects that begin, and parameters that get their words.
-use Rattle.std.proofs.Common.{Vec, Global, ◌≡◌, ℕ, zero, suc, ◌+◌, ◌-◌, ◌*◌, ◌^◌, ◌≤◌, ◌<◌, ◌==◌, List, [], ◌∷◌, ◌++◌, Bool, true, false, if◌then◌else◌, Option, Some, None, length, map, take, drop, get_or, set, slice_get, replicate, pos, refl, sym, ap, ◌∙◌, subst, add-one, arith}
+use Rattle.std.proofs.Common.{Vec, Global, ◌≡◌, ℕ, zero, suc, ◌+◌, ◌-◌, ◌*◌, ◌^◌, ◌≤◌, ◌<◌, ◌==◌, List, [], ◌∷◌, ◌++◌, Bool, true, false, if◌then◌else◌, Option, Some, None, length, map, take, drop, get_or, set, slice_get, replicate, pos, length-append, refl, sym, ap, ◌∙◌, subst, add-one, arith}
 use Rattle.std.specs.List.{All}
 use Rattle.std.proofs.lemmas.List.{length-map, map-append, map-set, drop_more}
 use Rattle.std.proofs.lemmas.Option.{get_or_from_slice_get, slice_get_within}
@@ -8,6 +8,8 @@ use Rattle.hy_bits.specs.declared.width.Width.{Width}
 use Rattle.hy_bits.specs.declared.width.Width.TheVariants.{W1, W64}
 use Rattle.word_graph.specs.declared.entry.Entry.{Entry}
 use Rattle.word_graph.specs.declared.entry.Node.{Node}
+use Rattle.word_graph.specs.Growth.{Grows}
+use Rattle.word_graph.specs.Size.{graph_size}
 use Rattle.word_graph.specs.Meaning.{InputsFit}
 use Rattle.word_nodes.specs.Nodes.{AllStand, Extends, Stands, worth, worths}
 use Rattle.word_nodes.proofs.NodeLaws.{AllStand-later, Extends-inputs_before, Extends-length, Stands-later, worth-later}
@@ -238,3 +240,12 @@ pub worths-kept : {region : ℕ} {old new : List Entry} (f : Extends region old 
 worths-kept f ins [] h = refl
 worths-kept {region} {old} {new} f ins (n ∷ ns) h =
     ap (λ (x : ℕ). x ∷ worths new ins ns) (worth-later f ins n (h zero n (omega arith))) ∙ ap (λ (xs : List ℕ). worth old ins n ∷ xs) (worths-kept f ins ns (λ k d j. h (suc k) d (omega arith)))
+
+-- as a growth by so many nodes without gates
+pub grown-of : {region : ℕ} {old new : List Entry} (f : Extends region old new) (n : ℕ) → length new ≤ length old + n → graph_size new ≤ graph_size old → Grows old new n 0
+grown-of {region} {old} {new} f n few small = record {
+  added = f.added;
+  appended = f.appended;
+  few_nodes = omega (arith, few, ap (λ (es : List Entry). length es) f.appended, length-append old f.added);
+  few_gates = omega (arith, small);
+}

@@ -24,6 +24,7 @@ use Rattle.c_meaning.specs.declared.types.Object.{Object}
 use Rattle.c_meaning.specs.declared.types.StructType.{StructType}
 use Rattle.c_meaning.specs.declared.types.ValueKind.{ValueKind}
 use Rattle.c_meaning.specs.declared.types.ValueKind.TheVariants as kind
+use Rattle.c_meaning.specs.declared.programs.TypedFunction.{TypedFunction}
 use Rattle.c_meaning.specs.declared.typed.TypedParts.{TypedParts}
 use Rattle.c_meaning.specs.declared.values.Cell.{Cell}
 use Rattle.c_meaning.specs.declared.values.Cell.TheVariants as cell
@@ -35,7 +36,7 @@ use Rattle.cell_widths.specs.Widths.{widths_of}
 use Rattle.cell_widths.proofs.CountLaws.{widths_count}
 use Rattle.c_place.specs.Boards.{Layout}
 use Rattle.place_start.specs.declared.arguments.Argument.{Argument}
-use Rattle.place_start.specs.Starts.{argument_in, argument_in_array, argument_of, array_argument, known_widths, main_arguments, main_params, main_widths, object_layout, place_in, program_layout, settled, start_held, with_argument, with_arguments, with_pointer, words_widths}
+use Rattle.place_start.specs.Starts.{argument_in, argument_in_array, argument_of, array_argument, function_params, known_widths, main_arguments, main_params, main_widths, object_layout, place_in, program_layout, settled, start_held, with_argument, with_arguments, with_pointer, words_widths}
 use Rattle.place_start.specs.Begins.{ArgumentFits, Enters, PlaceFits, StartsWell, start_words}
 
 -- ---- words of objects
@@ -290,3 +291,20 @@ module _ (structs : List StructType) (fit : StructsFit (struct_cells structs) 0 
       ∙ ap (λ (ws : List ℕ). with_arguments (arguments ks) ws (with_argument a (take (a.cells + m) ins) held)) (drop-of-take a.cells m ins)
       ∙ ap (λ (ws : List ℕ). with_arguments (arguments ks) (take m (drop a.cells ins)) (with_pointer a.parameter a.points_to (set held a.object (words_in ws)))) (take-of-take a.cells m ins)
       ∙ parameters-words ks (drop a.cells ins) (with_argument a ins held) h.1
+
+-- ---- the program
+
+module _ (p : TypedParts) (typed : IsTyped p) where
+  pub program-starts : All (StartsWell p.structs) p.objects
+  program-starts = objects-start p.structs typed.structs p.objects typed.objects
+
+  program-placed : AllPlaced p.structs typed.structs p.objects typed.objects (main_params p)
+  program-placed =
+      subst (λ (main : Option TypedFunction). AllPlaced p.structs typed.structs p.objects typed.objects (function_params main)) (sym typed.main.1)
+      (parameters-placed p.structs typed.structs p.objects typed.objects typed.main.0.params p.ports typed.main.2)
+
+  pub program-enters : (es : List Entry) (words : List Node) → AllStand es (main_widths p) words → Enters es (program_layout p) (main_arguments p) words
+  program-enters es words s = parameters-enter p.structs typed.structs p.objects typed.objects es (main_params p) words program-placed s
+
+  pub program-words : (ins : List ℕ) (held : List (List Cell)) → with_arguments (main_arguments p) (take (length (main_widths p)) ins) held ≡ with_arguments (main_arguments p) ins held
+  program-words ins held = parameters-words p.structs typed.structs p.objects typed.objects (main_params p) ins held program-placed

@@ -12,3 +12,4 @@ mod arguments;
 mod starting;
 
 pub use arguments::Argument;
+pub use starting::start;

@@ -5,17 +5,17 @@ ghost use Rattle.word_graph.specs.declared.graph.GraphFault;
 ghost use Rattle.word_graph.specs.Growth.{Grows};
 ghost use Rattle.word_graph.specs.Meaning.{InputsFit};
 ghost use Rattle.word_graph.specs.Size.{graph_size};
-ghost use Rattle.word_nodes.specs.Nodes.{Extends, IsFull, worths};
+ghost use Rattle.word_nodes.specs.Nodes.{AllStand, Extends, IsFull, worths};
 ghost use Rattle.node_lists.specs.Lists.{HasWords};
-ghost use Rattle.c_meaning.specs.StatementRules.{cells_in};
+ghost use Rattle.c_meaning.specs.StatementRules.{IsTyped, cells_in};
 ghost use Rattle.c_place.specs.Boards.{HeldFits, IsBoard, Layout, cells_held, held_layout, layout, objects_held};
-ghost use Rattle.place_start.specs.Starts.{held_at_start, main_widths, object_layout, program_layout, start_held, with_arguments};
+ghost use Rattle.place_start.specs.Starts.{held_at_start, main_arguments, main_widths, object_layout, program_layout, start_held, with_arguments};
 ghost use Rattle.place_start.specs.Begins.{AreZeros, Enters, IsEntered, IsOne, StartsWell, start_words};
 
 use crate::arguments::{
     Argument, argument_widths, arguments_of, is_pointer, object_widths, params_of,
 };
-use c_meaning::{Object, StructType, Typed};
+use c_meaning::{Object, StructType, Typed, TypedParts};
 use c_place::{Board, Cells, Held, Target, Targets, Zeros};
 use hy_bits::Width;
 use node_lists::{constants, inputs};
@@ -187,4 +187,79 @@ fn enter(
         rest = others;
     }
     Ok(())
+}
+/// The parameters of `mpc_main`, and the nodes of their words, one after another.
+#[derive(Debug, Drop)]
+struct MainInputs {
+    arguments: Vec<Argument>,
+    words: Vec<Node>,
+}
+
+/// Makes the inputs of a program, numbered from 0 on in the order of the parameters of `mpc_main`.
+fn main_inputs(
+    alloc: Global,
+    graph: &mut Graph,
+    parts: &TypedParts,
+) -> Result<MainInputs, GraphFault>
+    ensures arguments { IfOk result (λ m. m.arguments.items ≡ main_arguments parts.now) }
+    ensures stand { IfOk result (λ m. AllStand graph.new (main_widths parts.now) m.words.items) }
+    ensures value { IfOk result (λ m. (ins : List ℕ) → InputsFit graph.new ins → worths graph.new ins m.words.items ≡ take (length (main_widths parts.now)) ins) }
+    ensures there { OnOk result ((ins : List ℕ) → InputsFit graph.new ins → length (main_widths parts.now) ≤ length ins) }
+    ensures fit { OnOk result ((ins : List ℕ) → InputsFit graph.old ins → HasWords (main_widths parts.now) ins → InputsFit graph.new ins) }
+    ensures grows { Grows graph.old graph.new (length (main_widths parts.now)) 0 }
+    ensures full { IfErr result (IsFull graph.new) }
+{
+    let structs = parts.structs.as_slice();
+    let objects = parts.objects.as_slice();
+    let arguments = arguments_of(alloc, structs, objects, params_of(parts))?;
+    let widths = argument_widths(alloc, structs, objects, arguments.as_slice())?;
+    let words = inputs(alloc, graph, widths.as_slice())?;
+    Ok(MainInputs { arguments, words })
+}
+
+/// The cells of the objects of the program of these parts, which keeps the rules of types.
+fn start_parts(alloc: Global, parts: &TypedParts, graph: &mut Graph) -> Result<Cells, GraphFault>
+    requires { IsTyped parts.now }
+    ensures board { IfOk result (IsBoard graph.new) }
+    ensures layout { IfOk result (λ cells. layout graph.new cells ≡ program_layout parts.now) }
+    ensures objects { IfOk result (λ cells. (ins : List ℕ) → InputsFit graph.new ins → objects_held graph.new ins cells ≡ held_at_start parts.now ins) }
+    ensures there { OnOk result ((ins : List ℕ) → InputsFit graph.new ins → length (main_widths parts.now) ≤ length ins) }
+    ensures fit { OnOk result ((ins : List ℕ) → InputsFit graph.old ins → HasWords (main_widths parts.now) ins → InputsFit graph.new ins) }
+    ensures grows { Grows graph.old graph.new (length (main_widths parts.now) + parts.now.cells + 7) 0 }
+    ensures full { IfErr result (IsFull graph.new) }
+{
+    let structs = parts.structs.as_slice();
+    let objects = parts.objects.as_slice();
+    let main = main_inputs(alloc, graph, parts)?;
+    let zeros = make_zeros(graph)?;
+    let mut held = start_objects(alloc, graph, structs, objects)?;
+    let arguments = main.arguments.as_slice();
+    let words = main.words.as_slice();
+    enter(alloc, graph, zeros, arguments, words, &mut held)?;
+    Ok(Cells::of(Board {
+        zeros,
+        objects: held,
+    }))
+}
+
+/// The cells of the objects of a typed program as the body of `mpc_main` begins, over a graph that gets the inputs, numbered from 0 on in
+/// the order of the parameters. An object of file scope holds the words that it begins with, a parameter its inputs, or a pointer to the first
+/// element of the array that holds them, and every other object zeros, or a null pointer. It takes time linear in the cells.
+///
+/// # Errors
+///
+/// `NodeLimit` where the graph is full, and `Memory`. The graph may have more nodes.
+pub fn start(alloc: Global, typed: &Typed, graph: &mut Graph) -> Result<Cells, GraphFault>
+    // The objects, for all inputs that fit, and which do.
+    ensures board { IfOk result (IsBoard graph.new) }
+    ensures layout { IfOk result (λ cells. layout graph.new cells ≡ program_layout typed.now) }
+    ensures objects { IfOk result (λ cells. (ins : List ℕ) → InputsFit graph.new ins → objects_held graph.new ins cells ≡ held_at_start typed.now ins) }
+    ensures there { OnOk result ((ins : List ℕ) → InputsFit graph.new ins → length (main_widths typed.now) ≤ length ins) }
+    ensures fit { OnOk result ((ins : List ℕ) → InputsFit graph.old ins → HasWords (main_widths typed.now) ins → InputsFit graph.new ins) }
+
+    // The nodes, also after an Err.
+    ensures grows { Grows graph.old graph.new (length (main_widths typed.now) + typed.now.cells + 7) 0 }
+    ensures full { IfErr result (IsFull graph.new) }
+{
+    start_parts(alloc, typed.parts(), graph)
 }
