@@ -2,3 +2,5 @@
 pub mod StepLaws
 -- what the rules of types say of objects and parameters
 pub mod TypedLaws
+-- no more inputs than cells
+pub mod DistinctLaws

@@ -98,7 +98,7 @@ pointer-cell cells (CType-F.Array count element) p = absurd (cc)
 pointer-cell cells (CType-F.Struct number) p = absurd (cc)
 pointer-cell cells (CType-F.Pointer qualifier to) p = refl
 
-pointer-kind : (k : ValueKind) → is_pointer k ≡ true → k ≡ kind.Pointer
+pub pointer-kind : (k : ValueKind) → is_pointer k ≡ true → k ≡ kind.Pointer
 pointer-kind kind.Void p = absurd (cc)
 pointer-kind (kind.Integer t) p = absurd (cc)
 pointer-kind kind.Pointer p = refl
@@ -150,6 +150,7 @@ pub record WellPlaced (structs : List StructType) (objects : List Object) (a : A
   pub cells : length (words_widths structs objects a) ≡ a.cells
   pub parameter : (o : Option (List Width)) × (slice_get (map (object_layout structs) objects) a.parameter ≡ Some o)
   pub place : PlaceFits (map (object_layout structs) objects) a a.points_to
+  pub held : (o : Object) × (slice_get objects a.object ≡ Some o) × (o.cells ≡ a.cells)
 
 layout-at : (structs : List StructType) (objects : List Object) (k : ℕ) (object : Object) → slice_get objects k ≡ Some object → slice_get (map (object_layout structs) objects) k ≡ Some (object_layout structs object)
 layout-at structs objects k object e = slice_get-map (object_layout structs) objects k ∙ ap (option_map (object_layout structs)) e
@@ -188,14 +189,14 @@ AllStand-split es vs ws ns c e s = (
 )
 
 -- whether it is an array
-abbrev layer_tag : CType-F ℕ → ℕ
+abbrev pub layer_tag : CType-F ℕ → ℕ
 layer_tag (CType-F.Array count element) = 1
 layer_tag other = 0
 
-abbrev tag : C.CType → ℕ
+abbrev pub tag : C.CType → ℕ
 tag = fold-CType ℕ layer_tag
 
-array-tag : (c : C.CType) (count : ℕ) (element : C.CType) → c ≡ ctype.Array count element → layer_tag (C.map-CType C.CType ℕ tag (C.out-CType c)) ≡ 1
+pub array-tag : (c : C.CType) (count : ℕ) (element : C.CType) → c ≡ ctype.Array count element → layer_tag (C.map-CType C.CType ℕ tag (C.out-CType c)) ≡ 1
 array-tag c count element e = sym (fold_out-CType ℕ layer_tag c) ∙ ap tag (e ∙ sym (ctype.rolls-Array count element)) ∙ fold-roll-CType ℕ layer_tag (CType-F.Array count element)
 
 array-row : (cells : List ℕ) (y : CType-F C.CType) → layer_tag (C.map-CType C.CType ℕ tag y) ≡ 1
@@ -207,10 +208,10 @@ array-row cells (CType-F.Struct number) h = absurd (cc)
 array-row cells (CType-F.Pointer qualifier to) h = absurd (cc)
 
 module _ (structs : List StructType) (fit : StructsFit (struct_cells structs) 0 structs) (objects : List Object) (all : ObjectsFit structs objects) where
-  abbrev cells : List ℕ
+  abbrev pub cells : List ℕ
   cells = struct_cells structs
 
-  abbrev Placed : Argument → Type 0
+  abbrev pub Placed : Argument → Type 0
   Placed a = WellPlaced structs objects a
 
   plain-placed : (k : ℕ) (object : Object) → slice_get objects k ≡ Some object → is_pointer (kind_of object.ctype) ≡ false → Placed (record { parameter = k; object = k; cells = object.cells; points_to = None })
@@ -219,6 +220,7 @@ module _ (structs : List StructType) (fit : StructsFit (struct_cells structs) 0 
     cells = ap (λ (o : Option Object). length (known_widths structs o)) e ∙ object-cells structs fit object (object-fits structs objects k object all e) p;
     parameter = (Some (known_widths structs (slice_get objects k)), plain-layout structs objects k object e p);
     place = tt;
+    held = (object, e, refl);
   }
 
   array-placed : (k : ℕ) (object array : Object) (count : ℕ) (element : C.CType) → slice_get objects k ≡ Some object → is_pointer (kind_of object.ctype) ≡ true → slice_get objects (k + 1) ≡ Some array → array.ctype ≡ ctype.Array count element
@@ -233,9 +235,10 @@ module _ (structs : List StructType) (fit : StructsFit (struct_cells structs) 0 
         cells = ap (λ (o : Option Object). length (known_widths structs o)) f ∙ object-cells structs fit array is no;
         parameter = (object_layout structs object, layout-at structs objects k object e);
         place = (refl, omega (arith, room), layout-at structs objects k object e ∙ ap (λ (b : Bool). Some (if b then None else Some (widths_of structs object.ctype))) p);
+        held = (array, f, refl);
       }
 
-  argument-is : (k : ℕ) (object : Object) (b : Bool) → slice_get objects k ≡ Some object → is_pointer (kind_of object.ctype) ≡ b
+  pub argument-is : (k : ℕ) (object : Object) (b : Bool) → slice_get objects k ≡ Some object → is_pointer (kind_of object.ctype) ≡ b
       → argument_of cells objects k ≡ (if b then array_argument cells objects k else record { parameter = k; object = k; cells = object.cells; points_to = None })
   argument-is k object b e p =
       ap (argument_in cells objects k) e
@@ -298,7 +301,7 @@ module _ (p : TypedParts) (typed : IsTyped p) where
   pub program-starts : All (StartsWell p.structs) p.objects
   program-starts = objects-start p.structs typed.structs p.objects typed.objects
 
-  program-placed : AllPlaced p.structs typed.structs p.objects typed.objects (main_params p)
+  pub program-placed : AllPlaced p.structs typed.structs p.objects typed.objects (main_params p)
   program-placed =
       subst (λ (main : Option TypedFunction). AllPlaced p.structs typed.structs p.objects typed.objects (function_params main)) (sym typed.main.1)
       (parameters-placed p.structs typed.structs p.objects typed.objects typed.main.0.params p.ports typed.main.2)

@@ -258,7 +258,7 @@ pub fn start(alloc: Global, typed: &Typed, graph: &mut Graph) -> Result<Cells, G
     ensures fit { OnOk result ((ins : List ℕ) → InputsFit graph.old ins → HasWords (main_widths typed.now) ins → InputsFit graph.new ins) }
 
     // The nodes, also after an Err.
-    ensures grows { Grows graph.old graph.new (length (main_widths typed.now) + typed.now.cells + 7) 0 }
+    ensures grows { Grows graph.old graph.new (2 * typed.now.cells + 7) 0 }
     ensures full { IfErr result (IsFull graph.new) }
 {
     start_parts(alloc, typed.parts(), graph)

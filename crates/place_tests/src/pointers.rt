@@ -1,6 +1,6 @@
 //! Pointers that are equal, and pointers chosen by bits.
 use crate::fixtures::{input, make_truths, pointer, value_of};
-use c_place::{Place, choose, same};
+use c_place::{Part, Place, choose, part_pointer, same};
 use hy_bits::Width;
 use std::alloc::Global;
 use std::process::Abort;
@@ -114,6 +114,46 @@ fn a_pointer_is_chosen_twice(rt: HostRuntime) -> Result<(), Fail> {
         assert_eq!(rt; told(0, 1)?, [0, 1, 0], "{places:?}");
         assert_eq!(rt; told(1, 0)?, [0, 0, 1], "{places:?}");
         assert_eq!(rt; told(0, 0)?, [0, 0, 1], "{places:?}");
+    }
+    Ok(())
+}
+
+/// Whether the pointer to the second cell of the row `indices[0]` is one to the cell `indices[1]`, and whether it is null.
+fn second_cell(rt: &impl Abort, alloc: Global, indices: &[u64]) -> Result<[u64; 2], GraphFault> {
+    let mut graph = Graph::new(alloc);
+    let i = input(&mut graph, Width::W64, 0)?;
+    let j = input(&mut graph, Width::W64, 1)?;
+    let bits = make_truths(&mut graph)?;
+    let row = pointer(alloc, &graph, bits, Some(ROWS), i)?;
+    let cell = pointer(alloc, &graph, bits, Some(CELLS), j)?;
+    let null = pointer(alloc, &graph, bits, None, i)?;
+    let second = Part {
+        offset: 1,
+        size: 1,
+        count: 1,
+    };
+    let part = part_pointer(alloc, &mut graph, &row, second, 0)?;
+    let is_cell = same(&mut graph, &part, &cell, 0)?;
+    let is_null = same(&mut graph, &part, &null, 0)?;
+    Ok([
+        value_of(rt, alloc, &graph, indices, is_cell)?,
+        value_of(rt, alloc, &graph, indices, is_null)?,
+    ])
+}
+
+#[test]
+fn a_part_of_a_row_is_a_cell_of_it(rt: HostRuntime) -> Result<(), Fail> {
+    let rows = [
+        ([0, 1], [1, 0]),
+        ([1, 4], [1, 0]),
+        ([1, 1], [0, 0]),
+        ([2, 7], [0, 1]),
+        ([u64::MAX, 1], [0, 1]),
+        ([1 << 32, 1], [0, 1]),
+    ];
+    for (indices, wanted) in rows {
+        let told = second_cell(&rt, rt.alloc(), indices.as_slice())?;
+        assert_eq!(rt; told, wanted, "{indices:?}");
     }
     Ok(())
 }
