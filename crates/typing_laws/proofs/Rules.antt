@@ -1,0 +1,72 @@
+-- The rules of a typed tree as the rule of its node and those of its parts.
+use Rattle.std.proofs.Common.{◌≡◌, ℕ, List, [], ◌∷◌, map, refl, sym, ap, subst, ◌∙◌}
+use Rattle.c_meaning.specs.declared.expressions.TypedExpr.{TypedExpr}
+use Rattle.c_meaning.specs.declared.expressions.Lvalue.{Lvalue}
+use Rattle.c_meaning.specs.declared.expressions.ChainStep.{ChainStep}
+use Rattle.c_meaning.specs.declared.expressions.LogicalOperand.{LogicalOperand}
+use Rattle.c_meaning.specs.declared.expressions.Lvalue.TheViews.{out-TypedExpr, out-Lvalue, out-ChainStep, out-LogicalOperand, roll-TypedExpr, roll-Lvalue, roll-ChainStep, roll-LogicalOperand}
+use Rattle.c_meaning.specs.declared.expressions.Lvalue.TheOpen.{Lvalue-F, TypedExpr-F, ChainStep-F, LogicalOperand-F}
+use Rattle.c_meaning.specs.declared.expressions.Lvalue.TheFolds as T
+use Rattle.c_meaning.specs.TypeRules.{Scope}
+use Rattle.c_meaning.specs.Rules.{IsTypedExpr, IsTypedLvalue, LvalueFits, ExprFits}
+use Rattle.typing_laws.proofs.Parts.{Each, LvalueParts, ExprParts, lvalue-parts, expr-parts, lvalue-beside, expr-beside}
+
+module _ (scope : Scope) where
+  abbrev pub NoRule : {A : Type 0} → A → Type 0
+  NoRule x = Unit {0}
+
+  abbrev pub IsTypedStep : ChainStep → Type 0
+  IsTypedStep = T.every-ChainStep (LvalueFits scope) (ExprFits scope) NoRule NoRule
+
+  abbrev pub IsTypedOperand : LogicalOperand → Type 0
+  IsTypedOperand = T.every-LogicalOperand (LvalueFits scope) (ExprFits scope) NoRule NoRule
+
+  abbrev pub PartsOfLvalue : Lvalue-F Lvalue TypedExpr ChainStep LogicalOperand → Type 0
+  PartsOfLvalue = LvalueParts (IsTypedLvalue scope) (IsTypedExpr scope) IsTypedStep IsTypedOperand
+
+  abbrev pub PartsOfExpr : TypedExpr-F Lvalue TypedExpr ChainStep LogicalOperand → Type 0
+  PartsOfExpr = ExprParts (IsTypedLvalue scope) (IsTypedExpr scope) IsTypedStep IsTypedOperand
+
+  pub typed-lvalue : (x : Lvalue-F Lvalue TypedExpr ChainStep LogicalOperand) → LvalueFits scope x → PartsOfLvalue x → IsTypedLvalue scope (roll-Lvalue x)
+  typed-lvalue x fits parts =
+      let y = lvalue-beside (IsTypedLvalue scope) (IsTypedExpr scope) IsTypedStep IsTypedOperand x parts in
+      T.every_made-Lvalue (LvalueFits scope) (ExprFits scope) NoRule NoRule x y.0 y.1 fits
+
+  pub typed-expr : (x : TypedExpr-F Lvalue TypedExpr ChainStep LogicalOperand) → ExprFits scope x → PartsOfExpr x → IsTypedExpr scope (roll-TypedExpr x)
+  typed-expr x fits parts =
+      let y = expr-beside (IsTypedLvalue scope) (IsTypedExpr scope) IsTypedStep IsTypedOperand x parts in
+      T.every_made-TypedExpr (LvalueFits scope) (ExprFits scope) NoRule NoRule x y.0 y.1 fits
+
+  pub rule-lvalue : (l : Lvalue) → IsTypedLvalue scope l → LvalueFits scope (out-Lvalue l)
+  rule-lvalue l h = T.every_here-Lvalue (LvalueFits scope) (ExprFits scope) NoRule NoRule l h
+
+  pub rule-expr : (e : TypedExpr) → IsTypedExpr scope e → ExprFits scope (out-TypedExpr e)
+  rule-expr e h = T.every_here-TypedExpr (LvalueFits scope) (ExprFits scope) NoRule NoRule e h
+
+  pub parts-lvalue : (l : Lvalue) → IsTypedLvalue scope l → PartsOfLvalue (out-Lvalue l)
+  parts-lvalue l h =
+      let y = T.every_held-Lvalue (LvalueFits scope) (ExprFits scope) NoRule NoRule l h in
+      subst PartsOfLvalue y.1 (lvalue-parts (IsTypedLvalue scope) (IsTypedExpr scope) IsTypedStep IsTypedOperand y.0)
+
+  pub parts-expr : (e : TypedExpr) → IsTypedExpr scope e → PartsOfExpr (out-TypedExpr e)
+  parts-expr e h =
+      let y = T.every_held-TypedExpr (LvalueFits scope) (ExprFits scope) NoRule NoRule e h in
+      subst PartsOfExpr y.1 (expr-parts (IsTypedLvalue scope) (IsTypedExpr scope) IsTypedStep IsTypedOperand y.0)
+
+  pub right-typed : (s : ChainStep) → IsTypedStep s → IsTypedExpr scope (out-ChainStep s).right
+  right-typed s h =
+      let y = T.every_held-ChainStep (LvalueFits scope) (ExprFits scope) NoRule NoRule s h in
+      subst (λ (z : ChainStep-F Lvalue TypedExpr ChainStep LogicalOperand). IsTypedExpr scope z.right) y.1 y.0.right.1
+
+  pub typed-step : (x : ChainStep-F Lvalue TypedExpr ChainStep LogicalOperand) → IsTypedExpr scope x.right → IsTypedStep (roll-ChainStep x)
+  typed-step x h = T.every_made-ChainStep (LvalueFits scope) (ExprFits scope) NoRule NoRule x
+      (record { left = x.left; place = x.place; operation = x.operation; right = (x.right, h) }) refl tt
+
+  pub operand-typed : (o : LogicalOperand) → IsTypedOperand o → IsTypedExpr scope (out-LogicalOperand o).operand
+  operand-typed o h =
+      let y = T.every_held-LogicalOperand (LvalueFits scope) (ExprFits scope) NoRule NoRule o h in
+      subst (λ (z : LogicalOperand-F Lvalue TypedExpr ChainStep LogicalOperand). IsTypedExpr scope z.operand) y.1 y.0.operand.1
+
+  pub typed-operand : (x : LogicalOperand-F Lvalue TypedExpr ChainStep LogicalOperand) → IsTypedExpr scope x.operand → IsTypedOperand (roll-LogicalOperand x)
+  typed-operand x h = T.every_made-LogicalOperand (LvalueFits scope) (ExprFits scope) NoRule NoRule x
+      (record { place = x.place; operand = (x.operand, h) }) refl tt

@@ -1,0 +1,2 @@
+-- scopes that grow at the end
+pub mod Scopes
