@@ -1,4 +1,10 @@
 -- induction over typed trees by the parts of a node
 pub mod Parts
--- the rules of a tree by its node and its parts
+-- the rules of a tree, and its type, by its node and its parts
 pub mod Rules
+-- types of structs that stand, and lists that grow
+pub mod Standing
+-- what is looked up in scopes that grow
+pub mod Growth
+-- what is typed stays so in scopes that grow
+pub mod Kept

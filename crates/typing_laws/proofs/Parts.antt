@@ -21,9 +21,9 @@ pub each-pairs : {A : Type 0} (P : A → Type 0) (xs : List A) → Each P xs →
 each-pairs P [] h = ([], refl)
 each-pairs P (x ∷ xs) h = let rest = each-pairs P xs h.1 in ((x, h.0) ∷ rest.0, ap (λ zs. x ∷ zs) rest.1)
 
-pub each-both : {A : Type 0} (P Q : A → Type 0) (xs : List A) → ((x : A) → P x → Q x) → Each P xs → Each Q xs
-each-both P Q [] f h = tt
-each-both P Q (x ∷ xs) f h = (f x h.0, each-both P Q xs f h.1)
+pub each-with : {A : Type 0} (P Q R : A → Type 0) (xs : List A) → ((x : A) → P x → Q x → R x) → Each P xs → Each Q xs → Each R xs
+each-with P Q R [] f p q = tt
+each-with P Q R (x ∷ xs) f p q = (f x p.0 q.0, each-with P Q R xs f p.1 q.1)
 
 module _ (PL : Lvalue → Type 0) (PE : TypedExpr → Type 0) (PS : ChainStep → Type 0) (PO : LogicalOperand → Type 0) where
   abbrev pub LvalueParts : Lvalue-F Lvalue TypedExpr ChainStep LogicalOperand → Type 0
@@ -143,3 +143,33 @@ module _ (PL : Lvalue → Type 0) (PE : TypedExpr → Type 0) (PS : ChainStep �
         (λ x y is. exprs x (subst ExprParts is (expr-parts y)))
         (λ x y is. steps x (subst (λ (z : Step-F). PE z.right) is y.right.1))
         (λ x y is. operands x (subst (λ (z : Operand-F). PE z.operand) is y.operand.1))
+
+-- ---- parts that have two things have a third
+
+module _
+    (PL QL RL : Lvalue → Type 0) (PE QE RE : TypedExpr → Type 0) (PS QS RS : ChainStep → Type 0) (PO QO RO : LogicalOperand → Type 0)
+    (lvalues : (l : Lvalue) → PL l → QL l → RL l)
+    (exprs : (e : TypedExpr) → PE e → QE e → RE e)
+    (steps : (s : ChainStep) → PS s → QS s → RS s)
+    (operands : (o : LogicalOperand) → PO o → QO o → RO o) where
+  pub lvalue-parts-with : (x : Lvalue-F Lvalue TypedExpr ChainStep LogicalOperand) → LvalueParts PL PE PS PO x → LvalueParts QL QE QS QO x → LvalueParts RL RE RS RO x
+  lvalue-parts-with (Lvalue-F.Object place object cells) p q = tt
+  lvalue-parts-with (Lvalue-F.Indirection place pointer) p q = exprs pointer p q
+  lvalue-parts-with (Lvalue-F.Subscript place pointer t index) p q = (exprs pointer p.0 q.0, exprs index p.1 q.1)
+  lvalue-parts-with (Lvalue-F.Member place of member offset cells) p q = lvalues of p q
+  lvalue-parts-with (Lvalue-F.Arrow place pointer member offset cells) p q = exprs pointer p q
+
+  pub expr-parts-with : (x : TypedExpr-F Lvalue TypedExpr ChainStep LogicalOperand) → ExprParts PL PE PS PO x → ExprParts QL QE QS QO x → ExprParts RL RE RS RO x
+  expr-parts-with (TypedExpr-F.Constant place t w) p q = tt
+  expr-parts-with (TypedExpr-F.Load k from) p q = lvalues from p q
+  expr-parts-with (TypedExpr-F.Decay cells count from) p q = lvalues from p q
+  expr-parts-with (TypedExpr-F.Address place of) p q = lvalues of p q
+  expr-parts-with (TypedExpr-F.Converted conversion operand) p q = exprs operand p q
+  expr-parts-with (TypedExpr-F.Cast place from to operand) p q = exprs operand p q
+  expr-parts-with (TypedExpr-F.Unary place sign t operand) p q = exprs operand p q
+  expr-parts-with (TypedExpr-F.Not place k operand) p q = exprs operand p q
+  expr-parts-with (TypedExpr-F.Chain first rest) p q = (exprs first p.0 q.0, each-with PS QS RS rest steps p.1 q.1)
+  expr-parts-with (TypedExpr-F.LogicalAnd first rest) p q = (exprs first p.0 q.0, each-with PO QO RO rest operands p.1 q.1)
+  expr-parts-with (TypedExpr-F.LogicalOr first rest) p q = (exprs first p.0 q.0, each-with PO QO RO rest operands p.1 q.1)
+  expr-parts-with (TypedExpr-F.Conditional condition place k second third) p q = (exprs condition p.0 q.0, exprs second p.1 q.1, exprs third p.2 q.2)
+  expr-parts-with (TypedExpr-F.Call place function k arguments) p q = each-with PE QE RE arguments exprs p q

@@ -1,2 +1,2 @@
--- scopes that grow at the end
+-- scopes that grow at the end, and types of structs that stand
 pub mod Scopes
