@@ -1,5 +1,5 @@
 -- What is typed in a scope is typed, with the same type, in a scope that grows from it, and its type is of structs that stand.
-use Rattle.std.proofs.Common.{◌≡◌, ℕ, ◌<◌, ◌++◌, Bool, true, Option, None, Some, List, [], ◌∷◌, map, length, get_or, slice_get, ap, sym, subst, ◌∙◌, refl}
+use Rattle.std.proofs.Common.{◌≡◌, ℕ, ◌<◌, ◌++◌, Bool, true, Option, None, Some, List, [], ◌∷◌, map, length, get_or, slice_get, IsSome, ap, sym, subst, ◌∙◌, refl}
 use Rattle.hy_bits.specs.declared.scalar.Scalar.{Scalar}
 use Rattle.hy_bits.specs.declared.scalar.Scalar.TheVariants.{S32}
 use Rattle.c_meaning.specs.declared.types.CType.{CType, out-CType}
@@ -18,13 +18,14 @@ use Rattle.c_meaning.specs.declared.expressions.ChainStep.{ChainStep}
 use Rattle.c_meaning.specs.declared.expressions.LogicalOperand.{LogicalOperand}
 use Rattle.c_meaning.specs.declared.expressions.Lvalue.TheOpen.{Lvalue-F, TypedExpr-F, ChainStep-F, LogicalOperand-F}
 use Rattle.c_meaning.specs.declared.expressions.Lvalue.TheViews.{out-ChainStep, out-LogicalOperand, roll-TypedExpr, roll-Lvalue, roll-ChainStep, roll-LogicalOperand, out-roll-ChainStep, out-roll-LogicalOperand}
+use Rattle.c_meaning.specs.Constants.{constant_of}
 use Rattle.c_meaning.specs.Types.{cells_of, struct_cells, kind_of}
 use Rattle.c_meaning.specs.TypeRules.{Scope, ExprType, Typed, Designated, StepType, nowhere, pointee, members_of, member_designated, member_in, loaded, decayed_as, pointer_at, chosen_type, returned_type, converted_where, combined_type, along_types, object_designated, expr_type_rule, lvalue_type_rule, type_of, designated_by}
 use Rattle.c_meaning.specs.Rules.{IsTypedExpr, IsTypedLvalue, LvalueFits, ExprFits, StepsFit, ArgumentsFit, OperandsAreConditions, BranchesFit, ConversionFits, OperationFits, IsMember, IsCondition, IsInteger, IsAssignable, ArePointersAlike, layer_admits, is_scalar_kind, kind_of_type}
 use Rattle.typing_laws.specs.Scopes.{ScopeGrows, ScopeStands, TypeStands, CTypeStands, is_standing}
 use Rattle.typing_laws.proofs.Parts.{Each, LvalueParts, ExprParts, lvalue-parts-with, expr-parts-with, by_expr-parts, by_lvalue-parts}
 use Rattle.typing_laws.proofs.Rules.{IsTypedStep, IsTypedOperand, NoRule, step_type, operand_type, types_in_expr, types_in_lvalue, step-type-of, type-of-rolled, designated-by-rolled, rule-of-lvalue, rule-of-expr, parts-of-lvalue, parts-of-expr, typed-lvalue, typed-expr, right-typed, typed-step, operand-typed, typed-operand}
-use Rattle.typing_laws.proofs.Standing.{int-stands, stands-out}
+use Rattle.typing_laws.proofs.Standing.{array-stands, int-stands}
 use Rattle.typing_laws.proofs.Growth.{pointee-stands, loaded-stands, decayed-stands, pointer-at-stands, chosen-stands, converted-stands, combined-stands, object-kept, struct-kept, function-kept, cells-kept, members-kept, member-stands}
 
 module _ (old new : Scope) (grows : ScopeGrows old new) (stand : ScopeStands old) where
@@ -143,3 +144,133 @@ module _ (old new : Scope) (grows : ScopeGrows old new) (stand : ScopeStands old
   expr-stands (TypedExpr-F.Conditional condition place kind second third) f k = chosen-stands n (type_of old second) (type_of old third) k.1.2 k.2.2
   expr-stands (TypedExpr-F.Call place function kind arguments) f k =
       subst (λ (o : Option TypedFunction). TypeStands n (returned_type o)) (sym f.1) (stand.functions function f.0 f.1)
+
+  -- ---- rules of nodes
+
+  ctype-same : (from : Lvalue) → KeptLvalue from → (designated_by new from).ctype ≡ (designated_by old from).ctype
+  ctype-same from k = ap (λ (d : Designated). d.ctype) k.1
+
+  lvalue-fits : (x : L) → LvalueFits old x → KeptInLvalue x → LvalueFits new x
+  lvalue-fits (Lvalue-F.Object place object cells) f k = (f.0, object-kept old new grows stand object f.0 f.1, f.2)
+  lvalue-fits (Lvalue-F.Indirection place pointer) f k = subst (λ (t : ExprType). IsSome (pointee t).ctype) (sym k.1) f
+  lvalue-fits (Lvalue-F.Subscript place pointer t index) f k = (subst (λ (t : ExprType). IsSome (pointee t).ctype) (sym k.0.1) f.0, k.1.1 ∙ f.1)
+  lvalue-fits (Lvalue-F.Member place of member offset cells) f k =
+      (f.0, ap (λ (d : Designated). slice_get (members_of new.structs d.ctype) member) k.1 ∙ members-kept old new grows stand (designated_by old of).ctype member f.0 f.1, f.2, f.3)
+  lvalue-fits (Lvalue-F.Arrow place pointer member offset cells) f k =
+      (f.0, ap (λ (t : ExprType). slice_get (members_of new.structs (pointee t).ctype) member) k.1 ∙ members-kept old new grows stand (pointee (type_of old pointer)).ctype member f.0 f.1, f.2, f.3)
+
+  element-stands : (from : Lvalue) (count : ℕ) (element : CType) → CTypeStands n (designated_by old from).ctype → (designated_by old from).ctype ≡ Some (ctype.Array count element) → is_standing n element ≡ true
+  element-stands from count element h e = sym (array-stands n count element) ∙ subst (CTypeStands n) e h
+
+  condition-kept : (e : TypedExpr) → KeptExpr e → IsCondition old e → IsCondition new e
+  condition-kept e k f = ap (λ (t : ExprType). is_scalar_kind (kind_of_type t)) k.1 ∙ f
+
+  steps-fit : (first : TypedExpr) (before ss : List ChainStep) (left : ExprType) → Each KeptStep ss → StepsFit old first before ss left → StepsFit new first before ss left
+  steps-fit first before [] left k f = tt
+  steps-fit first before (s ∷ ss) left k f =
+      let op = (out-ChainStep s).operation in
+      let converted = converted_where (out-ChainStep s).left left in
+      let same = sym k.0.1 in (
+        f.0,
+        subst (λ (t : ExprType). OperationFits op converted t) same f.1,
+        subst (λ (t : ExprType). StepsFit new first (before ++ s ∷ []) ss (combined_type op converted t)) same
+            (steps-fit first (before ++ s ∷ []) ss (combined_type op converted (type_of old (out-ChainStep s).right)) k.1 f.2),
+      )
+
+  operands-fit : (os : List LogicalOperand) → Each KeptOperand os → OperandsAreConditions old os → OperandsAreConditions new os
+  operands-fit [] k f = tt
+  operands-fit (o ∷ os) k f = (ap (λ (t : ExprType). is_scalar_kind (kind_of_type t)) k.0.1 ∙ f.0, operands-fit os k.1 f.1)
+
+  branches-fit : (by : ValueKind) (second third : TypedExpr) → KeptExpr second → KeptExpr third → BranchesFit old by second third → BranchesFit new by second third
+  branches-fit kind.Void second third k l f = f
+  branches-fit (kind.Integer t) second third k l f = (k.1 ∙ f.0, l.1 ∙ f.1)
+  branches-fit kind.Pointer second third k l f =
+      subst (λ (t : ExprType). ArePointersAlike t (type_of new third)) (sym k.1) (subst (λ (t : ExprType). ArePointersAlike (type_of old second) t) (sym l.1) f)
+  branches-fit (kind.Struct number) second third k l f = f
+
+  arguments-fit : (ks : List ℕ) (es : List TypedExpr) → Each KeptExpr es → ArgumentsFit old ks es → ArgumentsFit new ks es
+  arguments-fit [] [] k f = tt
+  arguments-fit [] (e ∷ es) k f = f
+  arguments-fit (j ∷ ks) [] k f = f
+  arguments-fit (j ∷ ks) (e ∷ es) k f =
+      ((f.0.0, object-kept old new grows stand j f.0.0 f.0.1, subst (λ (t : ExprType). layer_admits t (out-CType f.0.0.ctype)) (sym k.0.1) f.0.2), arguments-fit ks es k.1 f.1)
+
+  expr-fits : (x : E) → ExprFits old x → KeptInExpr x → ExprFits new x
+  expr-fits (TypedExpr-F.Constant place t w) f k = f
+  expr-fits (TypedExpr-F.Load by from) f k = (f.0, ctype-same from k ∙ f.1, f.2, f.3)
+  expr-fits (TypedExpr-F.Decay cells count from) f k =
+      (f.0, ctype-same from k ∙ f.1, cells-kept old new grows stand f.0 (element-stands from count f.0 k.2 f.1) ∙ f.2)
+  expr-fits (TypedExpr-F.Address place of) f k = (f.0, ctype-same of k ∙ f.1, f.2)
+  expr-fits (TypedExpr-F.Converted conversion operand) f k = subst (λ (t : ExprType). ConversionFits conversion t (constant_of operand)) (sym k.1) f
+  expr-fits (TypedExpr-F.Cast place from to operand) f k = k.1 ∙ f
+  expr-fits (TypedExpr-F.Unary place sign t operand) f k = (k.1 ∙ f.0, f.1)
+  expr-fits (TypedExpr-F.Not place by operand) f k = (condition-kept operand k f.0, ap kind_of_type k.1 ∙ f.1)
+  expr-fits (TypedExpr-F.Chain first steps) f k =
+      (f.0, subst (λ (t : ExprType). StepsFit new first [] steps t) (sym k.0.1) (steps-fit first [] steps (type_of old first) k.1 f.1))
+  expr-fits (TypedExpr-F.LogicalAnd first rest) f k = (f.0, condition-kept first k.0 f.1, operands-fit rest k.1 f.2)
+  expr-fits (TypedExpr-F.LogicalOr first rest) f k = (f.0, condition-kept first k.0 f.1, operands-fit rest k.1 f.2)
+  expr-fits (TypedExpr-F.Conditional condition place by second third) f k = (condition-kept condition k.0 f.0, branches-fit by second third k.1 k.2 f.1)
+  expr-fits (TypedExpr-F.Call place function by arguments) f k = (f.0, function-kept old new grows stand function f.0 f.1, f.2, arguments-fit f.0.params arguments k f.3)
+
+  -- ---- whole trees
+
+  abbrev InLvalue : Lvalue → Type 0
+  InLvalue l = IsTypedLvalue old l → KeptLvalue l
+
+  abbrev InExpr : TypedExpr → Type 0
+  InExpr e = IsTypedExpr old e → KeptExpr e
+
+  abbrev InStep : ChainStep → Type 0
+  InStep s = IsTypedStep old s → KeptStep s
+
+  abbrev InOperand : LogicalOperand → Type 0
+  InOperand o = IsTypedOperand old o → KeptOperand o
+
+  of-lvalue : (x : L) → LvalueParts InLvalue InExpr InStep InOperand x → InLvalue (roll-Lvalue x)
+  of-lvalue x parts h =
+      let f = rule-of-lvalue old x h in
+      let k = lvalue-parts-with InLvalue (IsTypedLvalue old) KeptLvalue InExpr (IsTypedExpr old) KeptExpr InStep (IsTypedStep old) KeptStep InOperand (IsTypedOperand old) KeptOperand
+      (λ l p q. p q) (λ e p q. p q) (λ s p q. p q) (λ o p q. p q) x parts (parts-of-lvalue old x h) in
+      let typed = lvalue-parts-with KeptLvalue KeptLvalue (IsTypedLvalue new) KeptExpr KeptExpr (IsTypedExpr new) KeptStep KeptStep (IsTypedStep new) KeptOperand KeptOperand (IsTypedOperand new)
+      (λ l p q. p.0) (λ e p q. p.0) (λ s p q. p.0) (λ o p q. p.0) x k k in (
+        typed-lvalue new x (lvalue-fits x f k) typed,
+        designated-by-rolled new x ∙ lvalue-same x f k ∙ sym (designated-by-rolled old x),
+        subst (λ (d : Designated). CTypeStands n d.ctype) (sym (designated-by-rolled old x)) (lvalue-stands x f k),
+      )
+
+  of-expr : (x : E) → ExprParts InLvalue InExpr InStep InOperand x → InExpr (roll-TypedExpr x)
+  of-expr x parts h =
+      let f = rule-of-expr old x h in
+      let k = expr-parts-with InLvalue (IsTypedLvalue old) KeptLvalue InExpr (IsTypedExpr old) KeptExpr InStep (IsTypedStep old) KeptStep InOperand (IsTypedOperand old) KeptOperand
+      (λ l p q. p q) (λ e p q. p q) (λ s p q. p q) (λ o p q. p q) x parts (parts-of-expr old x h) in
+      let typed = expr-parts-with KeptLvalue KeptLvalue (IsTypedLvalue new) KeptExpr KeptExpr (IsTypedExpr new) KeptStep KeptStep (IsTypedStep new) KeptOperand KeptOperand (IsTypedOperand new)
+      (λ l p q. p.0) (λ e p q. p.0) (λ s p q. p.0) (λ o p q. p.0) x k k in (
+        typed-expr new x (expr-fits x f k) typed,
+        type-of-rolled new x ∙ expr-same x f k ∙ sym (type-of-rolled old x),
+        subst (TypeStands n) (sym (type-of-rolled old x)) (expr-stands x f k),
+      )
+
+  abbrev S : Type 0
+  S = ChainStep-F Lvalue TypedExpr ChainStep LogicalOperand
+
+  abbrev O : Type 0
+  O = LogicalOperand-F Lvalue TypedExpr ChainStep LogicalOperand
+
+  of-step : (x : S) → InExpr x.right → InStep (roll-ChainStep x)
+  of-step x right h =
+      let k = right (subst (λ (z : S). IsTypedExpr old z.right) (out-roll-ChainStep x) (right-typed old (roll-ChainStep x) h)) in
+      let same = sym (out-roll-ChainStep x) in
+      (typed-step new x k.0, subst (λ (z : S). type_of new z.right ≡ type_of old z.right) same k.1, subst (λ (z : S). TypeStands n (type_of old z.right)) same k.2)
+
+  of-operand : (x : O) → InExpr x.operand → InOperand (roll-LogicalOperand x)
+  of-operand x operand h =
+      let k = operand (subst (λ (z : O). IsTypedExpr old z.operand) (out-roll-LogicalOperand x) (operand-typed old (roll-LogicalOperand x) h)) in
+      (typed-operand new x k.0, subst (λ (z : O). type_of new z.operand ≡ type_of old z.operand) (sym (out-roll-LogicalOperand x)) k.1)
+
+  -- an expression is typed in the scope that grew, with the same type, which is of structs that stand
+  pub grown-expr : (e : TypedExpr) → IsTypedExpr old e → KeptExpr e
+  grown-expr = by_expr-parts InLvalue InExpr InStep InOperand of-lvalue of-expr of-step of-operand
+
+  -- and an lvalue
+  pub grown-lvalue : (l : Lvalue) → IsTypedLvalue old l → KeptLvalue l
+  grown-lvalue = by_lvalue-parts InLvalue InExpr InStep InOperand of-lvalue of-expr of-step of-operand

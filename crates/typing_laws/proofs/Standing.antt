@@ -37,6 +37,9 @@ stands-out below c = fold_out-CType Bool (layer_stands below) c
 pub pointer-stands : (below : ℕ) (qualifier : Qualifier) (to : C.CType) → is_standing below (ctype.Pointer qualifier to) ≡ is_standing below to
 pointer-stands below qualifier to = ap (is_standing below) (sym (ctype.rolls-Pointer qualifier to)) ∙ stands-rolled below (CType-F.Pointer qualifier to)
 
+pub array-stands : (below count : ℕ) (element : C.CType) → is_standing below (ctype.Array count element) ≡ is_standing below element
+array-stands below count element = ap (is_standing below) (sym (ctype.rolls-Array count element)) ∙ stands-rolled below (CType-F.Array count element)
+
 pub int-stands : (below : ℕ) (t : Scalar) → is_standing below (ctype.Int t) ≡ true
 int-stands below t = ap (is_standing below) (sym (ctype.rolls-Int t)) ∙ stands-rolled below (CType-F.Int t)
 
