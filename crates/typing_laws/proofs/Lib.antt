@@ -8,3 +8,8 @@ pub mod Standing
 pub mod Growth
 -- what is typed stays so in scopes that grow
 pub mod Kept
+-- typed trees of typed parts
+pub mod Making
+-- places, and their values
+pub mod Places
+pub mod Valued

@@ -1,2 +1,4 @@
 -- scopes that grow at the end, and types of structs that stand
 pub mod Scopes
+-- typed values and places
+pub mod Values
