@@ -13,3 +13,9 @@ pub mod Making
 -- places, and their values
 pub mod Places
 pub mod Valued
+-- conversions of integers, and operators on one operand
+pub mod Conversions
+-- chains that grow at their end
+pub mod Chains
+-- operands on the left by their form, choices and calls
+pub mod Forms
