@@ -19,3 +19,5 @@ pub mod Conversions
 pub mod Chains
 -- operands on the left by their form, choices and calls
 pub mod Forms
+-- productions of operators on one operand
+pub mod Unary

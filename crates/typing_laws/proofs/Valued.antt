@@ -29,7 +29,7 @@ min-of-less : (a b : ℕ) → a ≤ b → min a (b + 1) ≡ a
 min-of-less a b h = omega (arith, h)
 
 module _ (structs : List StructType) where
-  plain-out : (c : CType) (y : CType-F CType) → out-CType c ≡ y → is_plain (length structs) c ≡ layer_is_plain (length structs) (map-CType CType Bool (is_plain (length structs)) y)
+  pub plain-out : (c : CType) (y : CType-F CType) → out-CType c ≡ y → is_plain (length structs) c ≡ layer_is_plain (length structs) (map-CType CType Bool (is_plain (length structs)) y)
   plain-out c y e = fold_out-CType Bool (layer_is_plain (length structs)) c ∙ ap (λ (z : CType-F CType). layer_is_plain (length structs) (map-CType CType Bool (is_plain (length structs)) z)) e
 
   cells-out : (c : CType) (y : CType-F CType) → out-CType c ≡ y → cells_of (struct_cells structs) c ≡ layer_cells (struct_cells structs) (map-CType CType ℕ (cells_of (struct_cells structs)) y)

@@ -2,3 +2,5 @@
 pub mod Scopes
 -- typed values and places
 pub mod Values
+-- walks that pass with what keeps a rule
+pub mod Passing
