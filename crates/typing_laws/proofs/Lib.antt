@@ -21,3 +21,5 @@ pub mod Chains
 pub mod Forms
 -- productions of operators on one operand
 pub mod Unary
+-- productions of subscripts, members and casts, and walks one after another
+pub mod Postfix
