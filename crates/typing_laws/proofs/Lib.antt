@@ -23,3 +23,5 @@ pub mod Forms
 pub mod Unary
 -- productions of subscripts, members and casts, and walks one after another
 pub mod Postfix
+-- environments with more declared, and names
+pub mod Environments

@@ -4,3 +4,5 @@ pub mod Scopes
 pub mod Values
 -- walks that pass with what keeps a rule
 pub mod Passing
+-- environments: what holds of each, and those with more declared
+pub mod Environments
