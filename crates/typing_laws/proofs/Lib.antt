@@ -25,3 +25,5 @@ pub mod Unary
 pub mod Postfix
 -- environments with more declared, and names
 pub mod Environments
+-- the members of structs that fit
+pub mod Structs
