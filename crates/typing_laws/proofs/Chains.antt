@@ -1,15 +1,12 @@
 -- Chains of operators, and of "&&" and "||", that grow at their end (C11 6.5.5 to 6.5.14).
-use Rattle.std.proofs.Common.{◌≡◌, ◌≢◌, ℕ, Bool, true, Option, None, Some, List, [], ◌∷◌, ◌++◌, map, append_assoc, ap, sym, subst, ◌∙◌, refl}
+use Rattle.std.proofs.Common.{◌≡◌, ◌≢◌, ℕ, Option, None, List, [], ◌∷◌, ◌++◌, map, ap, sym, subst, ◌∙◌, refl}
 use Rattle.hy_bits.specs.declared.scalar.Scalar.TheVariants.{S32}
-use Rattle.c_meaning.specs.declared.operators.Conversion.{Conversion}
-use Rattle.c_meaning.specs.declared.operators.Operation.{Operation}
 use Rattle.c_meaning.specs.declared.expressions.TypedExpr.{TypedExpr}
 use Rattle.c_meaning.specs.declared.expressions.TypedExpr.TheVariants as expr
-use Rattle.c_meaning.specs.declared.expressions.Lvalue.{Lvalue}
 use Rattle.c_meaning.specs.declared.expressions.ChainStep.{ChainStep}
 use Rattle.c_meaning.specs.declared.expressions.LogicalOperand.{LogicalOperand}
-use Rattle.c_meaning.specs.declared.expressions.Lvalue.TheOpen.{Lvalue-F, TypedExpr-F, ChainStep-F, LogicalOperand-F}
-use Rattle.c_meaning.specs.declared.expressions.Lvalue.TheViews.{out-TypedExpr, out-ChainStep, out-LogicalOperand}
+use Rattle.c_meaning.specs.declared.expressions.Lvalue.TheOpen.{TypedExpr-F}
+use Rattle.c_meaning.specs.declared.expressions.Lvalue.TheViews.{out-ChainStep, out-LogicalOperand}
 use Rattle.c_meaning.specs.declared.expressions.Lvalue.TheFolds.{fold-roll-TypedExpr}
 use Rattle.c_meaning.specs.Constants.{Constant, StepConstant, constant_of, lvalue_name_rule, constant_rule, step_constant_rule, operand_constant_rule}
 use Rattle.c_meaning.specs.TypeRules.{Scope, ExprType, StepType, of_scalar, type_of, combined_type, converted_where, along_types}

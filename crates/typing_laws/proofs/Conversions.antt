@@ -1,15 +1,11 @@
 -- Conversions between integers, and operators on them (C11 6.3.1).
-use Rattle.std.proofs.Common.{◌≡◌, ◌≢◌, ℕ, ◌==◌, Bool, true, false, if◌then◌else◌, Option, None, Some, List, [], ◌∷◌, ap, sym, subst, ◌∙◌, refl, arith}
+use Rattle.std.proofs.Common.{◌≡◌, ℕ, Bool, true, false, if◌then◌else◌, None, Some, ap, subst, ◌∙◌, refl, arith}
 use Rattle.std.proofs.lemmas.Grind.{common_steps}
 use Rattle.hy_bits.specs.declared.scalar.Scalar.{Scalar}
 use Rattle.hy_bits.specs.declared.scalar.Scalar.TheVariants.{B1, S8, U8, S16, U16, S32, U32, S64, U64}
 use Rattle.c_tree.specs.declared.token.Place.{Place}
-use Rattle.c_meaning.specs.declared.types.CType.{CType, out-CType}
-use Rattle.c_meaning.specs.declared.types.CType.TheVariants as ctype
-use Rattle.c_meaning.specs.declared.types.ValueKind.{ValueKind}
-use Rattle.c_meaning.specs.declared.types.ValueKind.TheVariants as kind
+use Rattle.c_meaning.specs.declared.types.CType.{CType}
 use Rattle.c_meaning.specs.declared.operators.ArithmeticSign.{ArithmeticSign}
-use Rattle.c_meaning.specs.declared.operators.Conversion.{Conversion}
 use Rattle.c_meaning.specs.declared.operators.Conversion.TheVariants as conversion
 use Rattle.c_meaning.specs.declared.expressions.TypedExpr.{TypedExpr}
 use Rattle.c_meaning.specs.declared.expressions.TypedExpr.TheVariants as expr
@@ -17,7 +13,7 @@ use Rattle.c_meaning.specs.declared.expressions.Lvalue.TheOpen.{TypedExpr-F}
 use Rattle.c_meaning.specs.Constants.{Constant, Variable, Faulty, Word, constant_of}
 use Rattle.c_meaning.specs.Sizes.{promoted}
 use Rattle.c_meaning.specs.Types.{kind_of}
-use Rattle.c_meaning.specs.TypeRules.{Scope, ExprType, AnyPointer, Typed, of_scalar, type_of}
+use Rattle.c_meaning.specs.TypeRules.{Scope, ExprType, AnyPointer, Typed, of_scalar}
 use Rattle.c_meaning.specs.Rules.{is_scalar_kind, kind_of_type}
 use Rattle.c_conversions.specs.Scalars.{same_scalar, usual, conversion_between}
 use Rattle.c_typing.specs.Values.{is_zero, converted}

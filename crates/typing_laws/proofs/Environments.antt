@@ -1,9 +1,6 @@
 -- Environments with more declared, and what names and literals are in an environment.
-use Rattle.std.proofs.Common.{◌≡◌, ℕ, Bool, true, Option, None, Some, List, [], ◌∷◌, ◌++◌, slice_get, ap, sym, subst, ◌∙◌, refl}
-use Rattle.hy_bits.specs.declared.scalar.Scalar.{Scalar}
+use Rattle.std.proofs.Common.{◌≡◌, ℕ, Option, None, Some, List, [], ◌∷◌, ◌++◌, slice_get, ap, ◌∙◌, refl}
 use Rattle.hy_bits.specs.declared.scalar.Scalar.TheVariants.{S32}
-use Rattle.hy_bits.specs.Scalar.{scalar_width}
-use Rattle.hy_bits.specs.Words.{IsWord}
 use Rattle.c_tree.specs.declared.token.Place.{Place}
 use Rattle.c_tree.specs.declared.expressions.Identifier.{Identifier}
 use Rattle.c_meaning.specs.declared.types.Object.{Object}
@@ -13,7 +10,7 @@ use Rattle.c_typing.specs.declared.environment.Entity.{Entity}
 use Rattle.c_typing.specs.declared.environment.Entity.TheVariants as entity
 use Rattle.c_typing.specs.declared.environment.Environment.{Environment}
 use Rattle.c_typing.specs.Walks.{Passes, unless_none}
-use Rattle.c_typing.specs.Expressions.{name_typing, entity_typing, entity_at, entity_of, object_typing}
+use Rattle.c_typing.specs.Expressions.{name_typing, entity_typing, entity_at, object_typing}
 use Rattle.typing_laws.specs.Scopes.{Grows, ScopeGrows}
 use Rattle.typing_laws.specs.Passing.{Passing, TypedIn, scope_of}
 use Rattle.typing_laws.specs.Environments.{IsWellFormed, Extends}

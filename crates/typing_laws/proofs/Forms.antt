@@ -1,11 +1,9 @@
 -- Operands that stand on the left of an operator, with one more, by the form of what stands there; choices and calls.
-use Rattle.std.proofs.Common.{◌≡◌, ℕ, Bool, true, Option, None, Some, List, [], ◌∷◌, ◌++◌, slice_get, ap, sym, subst, ◌∙◌, refl}
+use Rattle.std.proofs.Common.{◌≡◌, ℕ, true, Some, List, [], ◌∷◌, ◌++◌, slice_get, ap, sym, subst, ◌∙◌, refl}
 use Rattle.hy_bits.specs.declared.scalar.Scalar.{Scalar}
 use Rattle.hy_bits.specs.declared.scalar.Scalar.TheVariants.{S32}
 use Rattle.c_tree.specs.declared.token.Place.{Place}
-use Rattle.c_meaning.specs.declared.types.CType.{CType, out-CType}
 use Rattle.c_meaning.specs.declared.types.CType.TheVariants as ctype
-use Rattle.c_meaning.specs.declared.types.ValueKind.{ValueKind}
 use Rattle.c_meaning.specs.declared.types.ValueKind.TheVariants as kind
 use Rattle.c_meaning.specs.declared.programs.TypedFunction.{TypedFunction}
 use Rattle.c_meaning.specs.declared.expressions.TypedExpr.{TypedExpr}

@@ -1,10 +1,8 @@
 -- What is typed in a scope is typed, with the same type, in a scope that grows from it.
-use Rattle.std.proofs.Common.{◌≡◌, ℕ, zero, suc, ◌<◌, ◌++◌, Bool, true, false, Option, None, Some, List, [], ◌∷◌, map, length, get_or, slice_get, ap, sym, subst, ◌∙◌, refl, arith}
-use Rattle.hy_bits.specs.declared.scalar.Scalar.{Scalar}
+use Rattle.std.proofs.Common.{◌≡◌, ℕ, ◌<◌, ◌++◌, Bool, true, Option, None, Some, List, [], length, get_or, slice_get, ap, sym, subst, ◌∙◌, refl}
 use Rattle.hy_bits.specs.declared.scalar.Scalar.TheVariants.{S32}
 use Rattle.c_meaning.specs.declared.types.CType.{CType, out-CType, map-CType}
 use Rattle.c_meaning.specs.declared.types.CType.TheOpen.{CType-F}
-use Rattle.c_meaning.specs.declared.types.CType.TheVariants as ctype
 use Rattle.c_meaning.specs.declared.types.Qualifier.{Qualifier}
 use Rattle.c_meaning.specs.declared.types.Member.{Member}
 use Rattle.c_meaning.specs.declared.types.Object.{Object}
@@ -14,19 +12,10 @@ use Rattle.c_meaning.specs.declared.operators.Conversion.TheVariants as conversi
 use Rattle.c_meaning.specs.declared.operators.Operation.{Operation}
 use Rattle.c_meaning.specs.declared.operators.Operation.TheVariants as operation
 use Rattle.c_meaning.specs.declared.programs.TypedFunction.{TypedFunction}
-use Rattle.c_meaning.specs.declared.expressions.TypedExpr.{TypedExpr}
-use Rattle.c_meaning.specs.declared.expressions.Lvalue.{Lvalue}
-use Rattle.c_meaning.specs.declared.expressions.ChainStep.{ChainStep}
-use Rattle.c_meaning.specs.declared.expressions.LogicalOperand.{LogicalOperand}
-use Rattle.c_meaning.specs.declared.expressions.Lvalue.TheOpen.{Lvalue-F, TypedExpr-F}
-use Rattle.c_meaning.specs.declared.expressions.Lvalue.TheViews.{out-ChainStep, out-LogicalOperand}
 use Rattle.c_meaning.specs.Operations.{left_type}
 use Rattle.c_meaning.specs.Types.{cells_of, struct_cells}
-use Rattle.c_meaning.specs.TypeRules.{Scope, ExprType, Untyped, AnyPointer, Typed, Designated, StepType, of_scalar, nowhere, pointee, layer_pointee, layer_members, members_of, member_designated, member_in, loaded, layer_decayed, decayed_as, pointer_at, layer_with, with_qualifier, chosen_type, returned_type, converted_type, converted_where, combined_type, along_types, object_designated, expr_type_rule, lvalue_type_rule, type_of, designated_by}
-use Rattle.c_meaning.specs.Rules.{IsTypedExpr, IsTypedLvalue}
-use Rattle.typing_laws.specs.Scopes.{Grows, ScopeGrows, ScopeStands, TypeStands, CTypeStands, is_standing, layer_stands}
-use Rattle.typing_laws.proofs.Parts.{Each, LvalueParts, ExprParts}
-use Rattle.typing_laws.proofs.Rules.{IsTypedStep, IsTypedOperand, step_type, operand_type, types_in_expr, types_in_lvalue, step-type-of}
+use Rattle.c_meaning.specs.TypeRules.{Scope, ExprType, Untyped, AnyPointer, Typed, pointee, layer_pointee, layer_members, members_of, loaded, layer_decayed, decayed_as, pointer_at, layer_with, chosen_type, converted_where, combined_type}
+use Rattle.typing_laws.specs.Scopes.{ScopeGrows, ScopeStands, TypeStands, CTypeStands, is_standing, layer_stands}
 use Rattle.typing_laws.proofs.Standing.{slice_get-grows, get_or-grows, map-grows, length-mapped, pointer-stands, int-stands, stands-out, same-cells}
 
 -- ---- types that stand, over plain values

@@ -1,15 +1,12 @@
 -- What is typed in a scope is typed, with the same type, in a scope that grows from it, and its type is of structs that stand.
-use Rattle.std.proofs.Common.{◌≡◌, ℕ, ◌<◌, ◌++◌, Bool, true, Option, None, Some, List, [], ◌∷◌, map, length, get_or, slice_get, IsSome, ap, sym, subst, ◌∙◌, refl}
-use Rattle.hy_bits.specs.declared.scalar.Scalar.{Scalar}
+use Rattle.std.proofs.Common.{◌≡◌, ℕ, ◌++◌, true, Option, Some, List, [], ◌∷◌, map, length, slice_get, IsSome, ap, sym, subst, ◌∙◌, refl}
 use Rattle.hy_bits.specs.declared.scalar.Scalar.TheVariants.{S32}
 use Rattle.c_meaning.specs.declared.types.CType.{CType, out-CType}
 use Rattle.c_meaning.specs.declared.types.CType.TheVariants as ctype
 use Rattle.c_meaning.specs.declared.types.Object.{Object}
 use Rattle.c_meaning.specs.declared.types.Member.{Member}
-use Rattle.c_meaning.specs.declared.types.Qualifier.{Qualifier}
 use Rattle.c_meaning.specs.declared.types.ValueKind.{ValueKind}
 use Rattle.c_meaning.specs.declared.types.ValueKind.TheVariants as kind
-use Rattle.c_meaning.specs.declared.operators.Conversion.{Conversion}
 use Rattle.c_meaning.specs.declared.operators.Conversion.TheVariants as conversion
 use Rattle.c_meaning.specs.declared.programs.TypedFunction.{TypedFunction}
 use Rattle.c_meaning.specs.declared.expressions.TypedExpr.{TypedExpr}
@@ -19,14 +16,13 @@ use Rattle.c_meaning.specs.declared.expressions.LogicalOperand.{LogicalOperand}
 use Rattle.c_meaning.specs.declared.expressions.Lvalue.TheOpen.{Lvalue-F, TypedExpr-F, ChainStep-F, LogicalOperand-F}
 use Rattle.c_meaning.specs.declared.expressions.Lvalue.TheViews.{out-ChainStep, out-LogicalOperand, roll-TypedExpr, roll-Lvalue, roll-ChainStep, roll-LogicalOperand, out-roll-ChainStep, out-roll-LogicalOperand}
 use Rattle.c_meaning.specs.Constants.{constant_of}
-use Rattle.c_meaning.specs.Types.{cells_of, struct_cells, kind_of}
-use Rattle.c_meaning.specs.TypeRules.{Scope, ExprType, Typed, Designated, StepType, nowhere, pointee, members_of, member_designated, member_in, loaded, decayed_as, pointer_at, chosen_type, returned_type, converted_where, combined_type, along_types, object_designated, expr_type_rule, lvalue_type_rule, type_of, designated_by}
-use Rattle.c_meaning.specs.Rules.{IsTypedExpr, IsTypedLvalue, LvalueFits, ExprFits, StepsFit, ArgumentsFit, OperandsAreConditions, BranchesFit, ConversionFits, OperationFits, IsMember, IsCondition, IsInteger, IsAssignable, ArePointersAlike, layer_admits, is_scalar_kind, kind_of_type}
+use Rattle.c_meaning.specs.TypeRules.{Scope, ExprType, Designated, StepType, pointee, members_of, member_designated, member_in, loaded, decayed_as, pointer_at, chosen_type, returned_type, converted_where, combined_type, along_types, object_designated, expr_type_rule, lvalue_type_rule, type_of, designated_by}
+use Rattle.c_meaning.specs.Rules.{IsTypedExpr, IsTypedLvalue, LvalueFits, ExprFits, StepsFit, ArgumentsFit, OperandsAreConditions, BranchesFit, ConversionFits, OperationFits, IsCondition, ArePointersAlike, layer_admits, is_scalar_kind, kind_of_type}
 use Rattle.typing_laws.specs.Scopes.{ScopeGrows, ScopeStands, TypeStands, CTypeStands, is_standing}
 use Rattle.typing_laws.proofs.Parts.{Each, LvalueParts, ExprParts, lvalue-parts-with, expr-parts-with, by_expr-parts, by_lvalue-parts}
-use Rattle.typing_laws.proofs.Rules.{IsTypedStep, IsTypedOperand, NoRule, step_type, operand_type, types_in_expr, types_in_lvalue, step-type-of, type-of-rolled, designated-by-rolled, rule-of-lvalue, rule-of-expr, parts-of-lvalue, parts-of-expr, typed-lvalue, typed-expr, right-typed, typed-step, operand-typed, typed-operand}
+use Rattle.typing_laws.proofs.Rules.{IsTypedStep, IsTypedOperand, step_type, types_in_expr, types_in_lvalue, step-type-of, type-of-rolled, designated-by-rolled, rule-of-lvalue, rule-of-expr, parts-of-lvalue, parts-of-expr, typed-lvalue, typed-expr, right-typed, typed-step, operand-typed, typed-operand}
 use Rattle.typing_laws.proofs.Standing.{array-stands, int-stands}
-use Rattle.typing_laws.proofs.Growth.{pointee-stands, loaded-stands, decayed-stands, pointer-at-stands, chosen-stands, converted-stands, combined-stands, object-kept, struct-kept, function-kept, cells-kept, members-kept, member-stands}
+use Rattle.typing_laws.proofs.Growth.{pointee-stands, loaded-stands, decayed-stands, pointer-at-stands, chosen-stands, converted-stands, combined-stands, object-kept, function-kept, cells-kept, members-kept, member-stands}
 
 module _ (old new : Scope) (grows : ScopeGrows old new) (stand : ScopeStands old) where
   abbrev n : ℕ

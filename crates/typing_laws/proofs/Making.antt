@@ -1,5 +1,5 @@
 -- Typed trees that are made of typed parts.
-use Rattle.std.proofs.Common.{◌≡◌, ap, sym, subst, ◌∙◌, refl}
+use Rattle.std.proofs.Common.{◌≡◌, ap, sym, subst, ◌∙◌}
 use Rattle.c_meaning.specs.declared.expressions.TypedExpr.{TypedExpr}
 use Rattle.c_meaning.specs.declared.expressions.Lvalue.{Lvalue}
 use Rattle.c_meaning.specs.declared.expressions.ChainStep.{ChainStep}

@@ -1,10 +1,10 @@
 -- Induction over typed trees by what a node's parts have, and rules of nodes as rules of a node and of its parts.
-use Rattle.std.proofs.Common.{◌≡◌, ℕ, List, [], ◌∷◌, map, refl, sym, ap, subst}
+use Rattle.std.proofs.Common.{◌≡◌, List, [], ◌∷◌, map, refl, ap, subst}
 use Rattle.c_meaning.specs.declared.expressions.TypedExpr.{TypedExpr}
 use Rattle.c_meaning.specs.declared.expressions.Lvalue.{Lvalue}
 use Rattle.c_meaning.specs.declared.expressions.ChainStep.{ChainStep}
 use Rattle.c_meaning.specs.declared.expressions.LogicalOperand.{LogicalOperand}
-use Rattle.c_meaning.specs.declared.expressions.Lvalue.TheViews.{out-TypedExpr, out-Lvalue, out-ChainStep, out-LogicalOperand, roll-TypedExpr, roll-Lvalue, roll-ChainStep, roll-LogicalOperand}
+use Rattle.c_meaning.specs.declared.expressions.Lvalue.TheViews.{roll-TypedExpr, roll-Lvalue, roll-ChainStep, roll-LogicalOperand}
 use Rattle.c_meaning.specs.declared.expressions.Lvalue.TheOpen.{Lvalue-F, TypedExpr-F, ChainStep-F, LogicalOperand-F}
 use Rattle.c_meaning.specs.declared.expressions.Lvalue.TheFolds as T
 

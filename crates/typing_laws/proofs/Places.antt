@@ -1,34 +1,23 @@
 -- Names, members, pointers and what they designate, and the values of places.
-use Rattle.std.proofs.Common.{◌≡◌, ◌≢◌, ℕ, zero, suc, ◌≤◌, ◌*◌, ◌+◌, ◌&&◌, nat_le, nat_lt, min, Bool, true, false, Option, None, Some, List, length, slice_get, IsSome, ap, sym, subst, ◌∙◌, refl, arith}
-use Rattle.std.proofs.lemmas.Grind.{common_steps}
+use Rattle.std.proofs.Common.{◌≡◌, ◌≢◌, ℕ, Some, slice_get, IsSome, ap, sym, subst, ◌∙◌, refl}
 use Rattle.hy_bits.specs.declared.scalar.Scalar.{Scalar}
-use Rattle.hy_bits.specs.declared.scalar.Scalar.TheVariants.{S32}
 use Rattle.hy_bits.specs.Scalar.{scalar_width}
 use Rattle.hy_bits.specs.Words.{IsWord}
 use Rattle.c_tree.specs.declared.token.Place.{Place}
-use Rattle.c_meaning.specs.declared.types.CType.{CType, out-CType, roll-CType, map-CType}
-use Rattle.c_meaning.specs.declared.types.CType.TheViews.{roll-out-CType}
-use Rattle.c_meaning.specs.declared.types.CType.TheOpen.{CType-F}
+use Rattle.c_meaning.specs.declared.types.CType.{CType}
 use Rattle.c_meaning.specs.declared.types.CType.TheVariants as ctype
-use Rattle.c_meaning.specs.declared.types.CType.TheFolds.{fold_out-CType, fold-roll-CType}
 use Rattle.c_meaning.specs.declared.types.Qualifier.{Qualifier}
 use Rattle.c_meaning.specs.declared.types.Member.{Member}
 use Rattle.c_meaning.specs.declared.types.Object.{Object}
-use Rattle.c_meaning.specs.declared.types.StructType.{StructType}
-use Rattle.c_meaning.specs.declared.types.ValueKind.{ValueKind}
 use Rattle.c_meaning.specs.declared.types.ValueKind.TheVariants as kind
 use Rattle.c_meaning.specs.declared.expressions.TypedExpr.{TypedExpr}
 use Rattle.c_meaning.specs.declared.expressions.TypedExpr.TheVariants as expr
 use Rattle.c_meaning.specs.declared.expressions.Lvalue.{Lvalue}
 use Rattle.c_meaning.specs.declared.expressions.Lvalue.TheVariants as lvalue
 use Rattle.c_meaning.specs.declared.expressions.Lvalue.TheOpen.{Lvalue-F, TypedExpr-F}
-use Rattle.c_meaning.specs.Types.{cells_of, struct_cells, kind_of, layer_kind, layer_cells}
-use Rattle.c_meaning.specs.TypeRules.{Scope, ExprType, Typed, Designated, of_scalar, pointee, layer_pointee, members_of, member_designated, member_in, loaded, layer_decayed, decayed_as, pointer_at, object_designated}
-use Rattle.c_meaning.specs.Rules.{IsMember}
-use Rattle.c_meaning.specs.StatementRules.{is_plain, layer_is_plain, most_cells, most_elements}
-use Rattle.c_conversions.specs.CTypes.{counted_cells}
-use Rattle.c_typing.specs.Values.{layer_value}
-use Rattle.typing_laws.specs.Values.{HasType, IsPlace, IsValue, IsPlainType, IsPlaceType, layer_is_place, IsValueType, layer_is_value}
+use Rattle.c_meaning.specs.Types.{cells_of, struct_cells, kind_of}
+use Rattle.c_meaning.specs.TypeRules.{Scope, Typed, Designated, of_scalar, pointee, layer_pointee, members_of, member_designated, member_in, loaded, layer_decayed, decayed_as, pointer_at, object_designated}
+use Rattle.typing_laws.specs.Values.{HasType, IsPlace}
 use Rattle.typing_laws.proofs.Making.{made-expr, made-lvalue}
 
 module _ (scope : Scope) where

@@ -1,9 +1,9 @@
 -- The productions of subscripts, members, casts and names: where they pass, they pass with what is typed.
-use Rattle.std.proofs.Common.{◌≡◌, ℕ, Option, None, Some, Result, Ok, Err, List, [], slice_get, ap, sym, subst, ◌∙◌, refl}
+use Rattle.std.proofs.Common.{◌≡◌, ℕ, Option, None, Some, List, [], slice_get, ap, subst, ◌∙◌, refl}
 use Rattle.hy_bits.specs.declared.scalar.Scalar.{Scalar}
 use Rattle.c_tree.specs.declared.token.Place.{Place}
 use Rattle.c_tree.specs.declared.expressions.Identifier.{Identifier}
-use Rattle.c_meaning.specs.declared.types.CType.{CType, out-CType, roll-CType}
+use Rattle.c_meaning.specs.declared.types.CType.{CType, out-CType}
 use Rattle.c_meaning.specs.declared.types.CType.TheOpen.{CType-F}
 use Rattle.c_meaning.specs.declared.types.CType.TheVariants as ctype
 use Rattle.c_meaning.specs.declared.types.Qualifier.{Qualifier}
@@ -17,9 +17,8 @@ use Rattle.c_meaning.specs.declared.expressions.Lvalue.TheVariants as lvalue
 use Rattle.c_meaning.specs.Types.{kind_of, layer_kind}
 use Rattle.c_meaning.specs.TypeRules.{Scope, Typed, layer_members, members_of}
 use Rattle.c_conversions.specs.declared.fault.TypeKind.TheVariants.{Unknown, Mismatch}
-use Rattle.c_conversions.specs.Operators.{cast, cast_to}
+use Rattle.c_conversions.specs.Operators.{cast}
 use Rattle.c_typing.specs.declared.environment.Environment.{Environment}
-use Rattle.c_typing.specs.declared.postfix.Pointee.{Pointee}
 use Rattle.c_typing.specs.declared.postfix.NumberedMember.{NumberedMember}
 use Rattle.c_typing.specs.declared.values.TypedValue.{TypedValue}
 use Rattle.c_typing.specs.declared.values.Typing.{Typing}
@@ -27,7 +26,7 @@ use Rattle.c_typing.specs.declared.values.Typing.TheVariants.{Designates, Gives}
 use Rattle.c_typing.specs.Walks.{Checked, Breaks, Passes, Walk, after, unless, unless_none}
 use Rattle.c_typing.specs.Values.{kind_operand, layer_pointee, scalar_of_kind, struct_number_of_kind}
 use Rattle.c_typing.specs.Expressions.{cast_from, subscript, subscript_of, value_gives, member_at, numbered, found_in, member_of, member_typing, arrow}
-use Rattle.typing_laws.specs.Values.{HasType, IsPlace, IsValue, IsTyping, layer_is_value}
+use Rattle.typing_laws.specs.Values.{HasType, IsValue, IsTyping, layer_is_value}
 use Rattle.typing_laws.specs.Passing.{Passing, TypedIn, MembersArePlain, scope_of}
 use Rattle.typing_laws.proofs.Places.{subscript-typed, member-typed, arrow-typed}
 use Rattle.typing_laws.proofs.Conversions.{cast-typed}

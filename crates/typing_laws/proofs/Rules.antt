@@ -1,5 +1,5 @@
 -- The rules of a typed tree as the rule of its node and those of its parts.
-use Rattle.std.proofs.Common.{◌≡◌, ℕ, List, [], ◌∷◌, map, refl, sym, ap, subst, ◌∙◌}
+use Rattle.std.proofs.Common.{◌≡◌, refl, subst}
 use Rattle.c_meaning.specs.declared.expressions.TypedExpr.{TypedExpr}
 use Rattle.c_meaning.specs.declared.expressions.Lvalue.{Lvalue}
 use Rattle.c_meaning.specs.declared.expressions.ChainStep.{ChainStep}
@@ -9,7 +9,7 @@ use Rattle.c_meaning.specs.declared.expressions.Lvalue.TheOpen.{Lvalue-F, TypedE
 use Rattle.c_meaning.specs.declared.expressions.Lvalue.TheFolds as T
 use Rattle.c_meaning.specs.TypeRules.{Scope, ExprType, Designated, StepType, type_of, designated_by, lvalue_type_rule, expr_type_rule, step_type_rule, operand_type_rule, combined_type, converted_where}
 use Rattle.c_meaning.specs.Rules.{IsTypedExpr, IsTypedLvalue, LvalueFits, ExprFits}
-use Rattle.typing_laws.proofs.Parts.{Each, LvalueParts, ExprParts, lvalue-parts, expr-parts, lvalue-beside, expr-beside}
+use Rattle.typing_laws.proofs.Parts.{LvalueParts, ExprParts, lvalue-parts, expr-parts, lvalue-beside, expr-beside}
 
 module _ (scope : Scope) where
   abbrev pub NoRule : {A : Type 0} → A → Type 0

@@ -1,5 +1,5 @@
 -- Types of structs that stand, and what is looked up in lists that grow at the end.
-use Rattle.std.proofs.Common.{◌≡◌, ℕ, zero, suc, ◌<◌, ◌*◌, ◌++◌, nat_lt, Bool, true, false, Option, None, Some, List, [], ◌∷◌, map, length, get_or, slice_get, ap, sym, subst, ◌∙◌, refl, arith}
+use Rattle.std.proofs.Common.{◌≡◌, ℕ, zero, suc, ◌<◌, ◌*◌, ◌++◌, nat_lt, Bool, true, Some, List, [], ◌∷◌, map, length, get_or, slice_get, ap, sym, subst, ◌∙◌, refl, arith}
 use Rattle.std.proofs.lemmas.Grind.{common_steps}
 use Rattle.hy_bits.specs.declared.scalar.Scalar.{Scalar}
 use Rattle.c_meaning.specs.declared.types.CType as C

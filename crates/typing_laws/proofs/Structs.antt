@@ -1,5 +1,5 @@
 -- The members of structs that fit are of types without pointers.
-use Rattle.std.proofs.Common.{◌≡◌, ℕ, zero, suc, ◌+◌, ◌≤◌, ◌<◌, ◌&&◌, nat_le, nat_lt, Bool, true, false, Option, None, Some, List, [], ◌∷◌, length, slice_get, ap, sym, subst, ◌∙◌, refl, arith}
+use Rattle.std.proofs.Common.{◌≡◌, ℕ, zero, suc, ◌+◌, ◌≤◌, ◌<◌, ◌&&◌, nat_le, nat_lt, Bool, true, Some, List, [], ◌∷◌, length, slice_get, ap, sym, subst, ◌∙◌, arith}
 use Rattle.std.proofs.lemmas.Grind.{common_steps}
 use Rattle.c_meaning.specs.declared.types.CType as C
 use Rattle.c_meaning.specs.declared.types.CType.TheOpen.{CType-F}
@@ -7,8 +7,7 @@ use Rattle.c_meaning.specs.declared.types.CType.TheFolds.{ind-CType, fold-roll-C
 use Rattle.c_meaning.specs.declared.types.Member.{Member}
 use Rattle.c_meaning.specs.declared.types.StructType.{StructType}
 use Rattle.c_meaning.specs.Types.{cells_of, struct_cells}
-use Rattle.c_meaning.specs.StatementRules.{IsStruct, MembersFill, StructsFit, is_plain, layer_is_plain, most_cells, most_elements}
-use Rattle.typing_laws.specs.Values.{IsPlainType}
+use Rattle.c_meaning.specs.StatementRules.{IsStruct, MembersFill, StructsFit, is_plain, layer_is_plain, most_elements}
 use Rattle.typing_laws.specs.Passing.{MembersArePlain}
 
 -- ---- more structs that stand

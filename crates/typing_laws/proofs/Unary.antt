@@ -1,9 +1,9 @@
 -- The productions of operators on one operand, subscripts and literals: where they pass, they pass with what is typed.
-use Rattle.std.proofs.Common.{◌≡◌, ◌≢◌, ℕ, Bool, true, false, if◌then◌else◌, Option, None, Some, Result, Ok, Err, List, slice_get, ap, sym, subst, ◌∙◌, refl}
+use Rattle.std.proofs.Common.{◌≡◌, ◌≢◌, Bool, true, false, if◌then◌else◌, List, ap, sym, subst, ◌∙◌, refl}
 use Rattle.hy_bits.specs.declared.scalar.Scalar.{Scalar}
 use Rattle.hy_bits.specs.declared.scalar.Scalar.TheVariants.{S32}
 use Rattle.c_tree.specs.declared.token.Place.{Place}
-use Rattle.c_meaning.specs.declared.types.CType.{CType, out-CType, roll-CType, map-CType}
+use Rattle.c_meaning.specs.declared.types.CType.{CType, out-CType, roll-CType}
 use Rattle.c_meaning.specs.declared.types.CType.TheViews.{roll-out-CType}
 use Rattle.c_meaning.specs.declared.types.CType.TheOpen.{CType-F}
 use Rattle.c_meaning.specs.declared.types.CType.TheVariants as ctype
@@ -12,30 +12,27 @@ use Rattle.c_meaning.specs.declared.types.StructType.{StructType}
 use Rattle.c_meaning.specs.declared.types.ValueKind.{ValueKind}
 use Rattle.c_meaning.specs.declared.types.ValueKind.TheVariants as kind
 use Rattle.c_meaning.specs.declared.operators.ArithmeticSign.{ArithmeticSign}
-use Rattle.c_meaning.specs.declared.expressions.TypedExpr.{TypedExpr}
 use Rattle.c_meaning.specs.declared.expressions.TypedExpr.TheVariants as expr
 use Rattle.c_meaning.specs.declared.expressions.Lvalue.{Lvalue}
 use Rattle.c_meaning.specs.declared.expressions.Lvalue.TheVariants as lvalue
 use Rattle.c_meaning.specs.Types.{kind_of, layer_kind}
 use Rattle.c_meaning.specs.Sizes.{promoted}
-use Rattle.c_meaning.specs.TypeRules.{Scope, Typed, ExprType}
+use Rattle.c_meaning.specs.TypeRules.{Scope, Typed}
 use Rattle.c_meaning.specs.Rules.{is_scalar_kind}
-use Rattle.c_meaning.specs.StatementRules.{is_plain}
-use Rattle.c_conversions.specs.declared.fault.TypeKind.{TypeKind}
 use Rattle.c_conversions.specs.declared.fault.TypeKind.TheVariants.{Mismatch, PointerForm}
-use Rattle.c_conversions.specs.Operators.{signed, cast, cast_to}
+use Rattle.c_conversions.specs.Operators.{signed}
 use Rattle.c_typing.specs.declared.environment.Environment.{Environment}
 use Rattle.c_typing.specs.declared.values.TypedValue.{TypedValue}
 use Rattle.c_typing.specs.declared.values.Typing.{Typing}
 use Rattle.c_typing.specs.declared.values.Typing.TheVariants.{Designates, Gives}
-use Rattle.c_typing.specs.Walks.{Checked, Breaks, Passes, Walk, after, unless, unless_none}
-use Rattle.c_typing.specs.Values.{converted, kind_operand, pointee_of, layer_pointee, scalar_of, scalar_of_kind, int_type}
-use Rattle.c_typing.specs.Expressions.{address_typing, indirection_typing, not_typing, sign_typing, cast_from, subscript}
-use Rattle.typing_laws.specs.Values.{HasType, IsPlace, IsValue, IsTyping, IsPlainType, IsPlaceType, layer_is_place, IsValueType, layer_is_value}
+use Rattle.c_typing.specs.Walks.{Breaks, Passes, unless, unless_none}
+use Rattle.c_typing.specs.Values.{converted, kind_operand, layer_pointee, int_type}
+use Rattle.c_typing.specs.Expressions.{address_typing, indirection_typing, not_typing, sign_typing}
+use Rattle.typing_laws.specs.Values.{HasType, IsValue, IsTyping, IsPlainType, IsPlaceType, layer_is_place, IsValueType, layer_is_value}
 use Rattle.typing_laws.specs.Passing.{Passing, TypedIn, scope_of}
-use Rattle.typing_laws.proofs.Places.{address-typed, indirection-typed, subscript-typed}
+use Rattle.typing_laws.proofs.Places.{address-typed, indirection-typed}
 use Rattle.typing_laws.proofs.Valued.{plain-out, pointer-value}
-use Rattle.typing_laws.proofs.Conversions.{not-typed, sign-typed, cast-typed}
+use Rattle.typing_laws.proofs.Conversions.{not-typed, sign-typed}
 
 -- ---- types by their kinds
 

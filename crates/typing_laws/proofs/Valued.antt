@@ -1,7 +1,6 @@
 -- The value of a typed place is typed (C11 6.3.2.1p2, p3).
-use Rattle.std.proofs.Common.{◌≡◌, ◌≢◌, ℕ, zero, suc, ◌≤◌, ◌*◌, ◌+◌, ◌&&◌, nat_le, nat_lt, min, Bool, true, false, List, length, ap, sym, subst, ◌∙◌, refl, arith}
+use Rattle.std.proofs.Common.{◌≡◌, ℕ, zero, suc, ◌≤◌, ◌*◌, ◌+◌, ◌&&◌, nat_le, min, Bool, true, List, length, ap, sym, subst, ◌∙◌, refl, arith}
 use Rattle.std.proofs.lemmas.Grind.{common_steps}
-use Rattle.hy_bits.specs.declared.scalar.Scalar.{Scalar}
 use Rattle.c_meaning.specs.declared.types.CType.{CType, out-CType, roll-CType, map-CType}
 use Rattle.c_meaning.specs.declared.types.CType.TheViews.{roll-out-CType}
 use Rattle.c_meaning.specs.declared.types.CType.TheOpen.{CType-F}
@@ -9,16 +8,15 @@ use Rattle.c_meaning.specs.declared.types.CType.TheVariants as ctype
 use Rattle.c_meaning.specs.declared.types.CType.TheFolds.{fold_out-CType}
 use Rattle.c_meaning.specs.declared.types.Qualifier.{Qualifier}
 use Rattle.c_meaning.specs.declared.types.StructType.{StructType}
-use Rattle.c_meaning.specs.declared.types.ValueKind.TheVariants as kind
 use Rattle.c_meaning.specs.declared.expressions.Lvalue.{Lvalue}
-use Rattle.c_meaning.specs.Types.{cells_of, struct_cells, kind_of, layer_kind, layer_cells}
-use Rattle.c_meaning.specs.TypeRules.{Scope, Designated, designated_by}
+use Rattle.c_meaning.specs.Types.{cells_of, struct_cells, layer_kind, layer_cells}
+use Rattle.c_meaning.specs.TypeRules.{Scope}
 use Rattle.c_meaning.specs.StatementRules.{is_plain, layer_is_plain, most_cells, most_elements}
 use Rattle.c_conversions.specs.CTypes.{counted_cells}
 use Rattle.c_typing.specs.declared.values.Typing.{Typing}
 use Rattle.c_typing.specs.declared.values.Typing.TheVariants.{Designates, Gives}
 use Rattle.c_typing.specs.Values.{layer_value, value_of}
-use Rattle.typing_laws.specs.Values.{HasType, IsPlace, IsValue, IsTyping, IsPlainType, IsPlaceType, layer_is_place, IsValueType, layer_is_value}
+use Rattle.typing_laws.specs.Values.{IsPlace, IsValue, IsTyping, IsPlainType, layer_is_place, IsValueType, layer_is_value}
 use Rattle.typing_laws.proofs.Places.{load-typed, decay-typed}
 
 few-element : (count cells most : ℕ) → 1 ≤ count → count * cells ≤ most → cells ≤ most

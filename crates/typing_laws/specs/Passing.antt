@@ -1,5 +1,5 @@
 -- Walks that pass with what keeps a rule.
-use Rattle.std.specs.Prelude.{◌≡◌, ℕ, Option, Some, List, slice_get}
+use Rattle.std.specs.Prelude.{◌≡◌, ℕ, Some, List, slice_get}
 use Rattle.c_meaning.specs.declared.types.Member.{Member}
 use Rattle.c_meaning.specs.declared.types.StructType.{StructType}
 use Rattle.c_meaning.specs.TypeRules.{Scope}

@@ -1,5 +1,5 @@
 -- What typed values and places are, and the types that they have.
-use Rattle.std.specs.Prelude.{◌≡◌, ◌≤◌, ℕ, Bool, true, nat_lt, Some, List, length}
+use Rattle.std.specs.Prelude.{◌≡◌, ◌≤◌, true, nat_lt, Some, List, length}
 use Rattle.c_meaning.specs.declared.types.CType.{CType, out-CType}
 use Rattle.c_meaning.specs.declared.types.CType.TheOpen.{CType-F}
 use Rattle.c_meaning.specs.declared.types.Qualifier.{Qualifier}

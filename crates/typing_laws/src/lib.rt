@@ -6,5 +6,12 @@
 //!
 //! | lemma | guarantee | file | definitions to read, in order |
 //! |---|---|---|---|
-//! | `grown-TypedExpr`, `grown-Lvalue` | what is typed in a scope is typed, with the same type, in a scope with more structs, objects and functions at the end | `proofs/Growth.antt` | `specs/Scopes.antt` |
+//! | `grown-expr`, `grown-lvalue` | what is typed in a scope is typed, with the same type, in a scope with more structs, objects and functions at the end | `proofs/Kept.antt` | `specs/Scopes.antt` |
+//! | `value-typed` | the value of a typed place or value is typed | `proofs/Valued.antt` | `specs/Values.antt` |
+//! | `chain-typed`, `disjunction-typed`, `conjunction-typed` | operands on the left of an operator, with one more, are typed | `proofs/Forms.antt` | `specs/Values.antt` |
+//! | `integers-chosen`, `pointers-chosen`, `call-typed` | a choice or a call of typed parts is typed | `proofs/Forms.antt` | `specs/Values.antt` |
+//! | `address-passing`, `indirection-passing`, `not-passing`, `sign-passing` | where the typing of a unary operator passes, it passes with what is typed | `proofs/Unary.antt` | `specs/Values.antt`, `specs/Passing.antt` |
+//! | `subscript-passing`, `cast-passing`, `member-passing`, `arrow-passing` | the same of subscripts, casts and members | `proofs/Postfix.antt` | `specs/Values.antt`, `specs/Passing.antt` |
+//! | `name-passing` | the same of names | `proofs/Environments.antt` | `specs/Environments.antt` |
+//! | `members-plain` | the members of structs that fit are of types without pointers | `proofs/Structs.antt` | `specs/Passing.antt` |
 #![tactic(auto)]
