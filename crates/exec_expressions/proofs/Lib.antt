@@ -4,3 +4,5 @@ pub mod OperationLaws
 pub mod EntryFacts
 -- targets whose indices are moved
 pub mod PointerSums
+-- pointers moved as the meaning says
+pub mod MeaningSums

@@ -51,7 +51,7 @@ module _ (es : List Entry) (ins : List ℕ) (graph : IsGraph es) (fit : InputsFi
 
 -- ---- C's operations, on words of their types
 
-low-word : (t : Scalar) (x : ℕ) → x < modulus_of t → low t x ≡ x
+pub low-word : (t : Scalar) (x : ℕ) → x < modulus_of t → low t x ≡ x
 low-word t x h = mod-eq_of_lt h
 
 pub arithmetic-value : (o : ArithmeticOperator) (t : Scalar) (from : Width) (x y : ℕ) → x < modulus_of t → y < modulus_of t →
