@@ -1,0 +1,2 @@
+-- blocks and sections by their parts
+mod Trees

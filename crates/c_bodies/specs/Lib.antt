@@ -1,0 +1,2 @@
+-- statements and blocks as whole trees
+pub mod Statements
