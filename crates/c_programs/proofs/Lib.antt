@@ -1,0 +1,2 @@
+-- how a program's typing ends
+pub mod Endings
