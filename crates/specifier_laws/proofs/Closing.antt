@@ -19,6 +19,7 @@ use Rattle.specifier_laws.specs.Declared.{SomeMembersIn}
 use Rattle.specifier_laws.proofs.Named.{struct-plain, plain-named}
 use Rattle.specifier_laws.proofs.Declaring.{put-extends, put-well, with_put}
 use Rattle.specifier_laws.proofs.Filling.{fill-kept}
+use Rattle.specifier_laws.proofs.Starting.{start-kept}
 
 structs-pushed : (cells : List ℕ) (n : ℕ) (structs : List StructType) (s : StructType) (end : ℕ) → n + length structs ≡ end → StructsFit cells n structs → IsStruct cells end s → StructsFit cells n (structs ++ s ∷ [])
 structs-pushed cells n [] s end e h is =
@@ -58,6 +59,8 @@ module _ (name : List ℕ) (m : Members) (env : Environment) (well : IsWellForme
     functions = grows-refl env.functions;
     typedefs = grows-refl env.typedefs;
     entities = grows-refl env.entities;
+    names = grows-refl env.names.bound;
+    opened = refl;
   }
 
   is-struct : IsStruct (struct_cells new.structs) (length env.structs) s
@@ -74,6 +77,9 @@ module _ (name : List ℕ) (m : Members) (env : Environment) (well : IsWellForme
     objects = λ k object e. place-type-kept env new struct-extends well object.ctype (well.objects k object e);
     typedefs = λ k q e. plain-kept env new struct-extends well q.ctype (well.typedefs k q e);
     functions = λ k f e. result-kept env new struct-extends well f.result (well.functions k f e);
+    starts = λ k object e. start-kept env new struct-extends well object (well.objects k object e) (well.starts k object e);
+    cells = well.cells;
+    few = well.few;
     tags = λ k number e. number-kept env new struct-extends well number (well.tags k number e);
     enumerators = well.enumerators;
   }

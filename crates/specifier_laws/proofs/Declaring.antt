@@ -30,6 +30,8 @@ module _ (name : List ℕ) (e : Entity) (env : Environment) where
     functions = grows-refl env.functions;
     typedefs = grows-refl env.typedefs;
     entities = (e ∷ [], refl);
+    names = (record { name = name; number = length env.entities } ∷ [], refl);
+    opened = refl;
   }
 
   enumerator-pushed : (well : IsWellFormed env) → EntityFits e → (k w : ℕ) → (slice_get env.entities k ≡ Some (entity.Enumerator w)) ⊎ (e ≡ entity.Enumerator w) → IsWord (scalar_width S32) w
@@ -42,6 +44,9 @@ module _ (name : List ℕ) (e : Entity) (env : Environment) where
     objects = well.objects;
     typedefs = well.typedefs;
     functions = well.functions;
+    starts = well.starts;
+    cells = well.cells;
+    few = well.few;
     tags = well.tags;
     enumerators = λ k w h. enumerator-pushed well fits k w (pushed env.entities e k (entity.Enumerator w) h);
   }
@@ -67,6 +72,8 @@ module _ (t : Tag) (env : Environment) where
     functions = grows-refl env.functions;
     typedefs = grows-refl env.typedefs;
     entities = grows-refl env.entities;
+    names = grows-refl env.names.bound;
+    opened = refl;
   }
 
   pub tag-well : (name : List ℕ) → IsWellFormed env → TagFits (length env.structs) t → IsWellFormed (with_tag name t env)
@@ -75,6 +82,9 @@ module _ (t : Tag) (env : Environment) where
     objects = well.objects;
     typedefs = well.typedefs;
     functions = well.functions;
+    starts = well.starts;
+    cells = well.cells;
+    few = well.few;
     tags = λ k number h. tag-at well fits k number (pushed env.tags t k (tag.Complete number) h);
     enumerators = well.enumerators;
   }
@@ -89,6 +99,8 @@ module _ (t : Tag) (env : Environment) where
     functions = grows-refl env.functions;
     typedefs = grows-refl env.typedefs;
     entities = grows-refl env.entities;
+    names = grows-refl env.names.bound;
+    opened = refl;
   }
 
   pub put-well : (n : ℕ) → IsWellFormed env → TagFits (length env.structs) t → IsWellFormed (with_put n)
@@ -97,6 +109,9 @@ module _ (t : Tag) (env : Environment) where
     objects = well.objects;
     typedefs = well.typedefs;
     functions = well.functions;
+    starts = well.starts;
+    cells = well.cells;
+    few = well.few;
     tags = λ k number h. tag-at well fits k number (put env.tags n t k (tag.Complete number) h);
     enumerators = well.enumerators;
   }

@@ -6,6 +6,8 @@ pub mod Named
 pub mod Declaring
 -- members one after another
 pub mod Filling
+-- the integers and the shapes of types, and what objects begin with, where more is declared
+pub mod Starting
 -- structs that are complete
 pub mod Closing
 -- words of enumerators, and numbers of elements

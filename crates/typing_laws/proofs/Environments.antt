@@ -40,6 +40,8 @@ extends-refl env = record {
   functions = grows-refl env.functions;
   typedefs = grows-refl env.typedefs;
   entities = grows-refl env.entities;
+  names = grows-refl env.names.bound;
+  opened = refl;
 }
 
 pub extends-trans : (a b c : Environment) → Extends a b → Extends b c → Extends a c
@@ -49,6 +51,8 @@ extends-trans a b c g h = record {
   functions = grows-trans a.functions b.functions c.functions g.functions h.functions;
   typedefs = grows-trans a.typedefs b.typedefs c.typedefs g.typedefs h.typedefs;
   entities = grows-trans a.entities b.entities c.entities g.entities h.entities;
+  names = grows-trans a.names.bound b.names.bound c.names.bound g.names h.names;
+  opened = h.opened ∙ g.opened;
 }
 
 pub scope-grows : (old new : Environment) → Extends old new → ScopeGrows (scope_of old) (scope_of new)
