@@ -1,0 +1,2 @@
+-- initializers and declarations as a text spells them, and what they fill
+pub mod Filling
