@@ -1,6 +1,7 @@
 -- Whole initializers: their values, in the order of the text, and the parts that they fill.
 use Rattle.std.proofs.Common.{◌≡◌, ℕ, ◌+◌, ◌++◌, ◌&&◌, Bool, true, false, List, [], ◌∷◌, map, length, ap, sym, subst, ◌∙◌, refl, arith}
 use Rattle.hy_bits.specs.declared.scalar.Scalar.{Scalar}
+use Rattle.c_tree.specs.Expressions.{has_some}
 use Rattle.c_tree.specs.declared.token.Place.{Place}
 use Rattle.c_tree.specs.declared.statements.Initializer.{Initializer, roll-Initializer, map-Initializer}
 use Rattle.c_tree.specs.declared.statements.Initializer.TheOpen.{Initializer-F}
@@ -80,7 +81,7 @@ module _ (storage : Storage) where
 
   values-by : (y : Initializer-F V) → start_spelled (map-Initializer Initializer Bool is_spelled_start (bare y)) ≡ true → KeepsValues storage (values_rule storage (map-Initializer Initializer ValuesWalk (values_of storage) (bare y)))
   values-by (Initializer-F.Expression e) h = value-walk-keeps storage (types_expr e) (expr-typed e h)
-  values-by (Initializer-F.List place parts comma) h = along-keeps (StartsIn storage) (map (values_of storage) (map (λ v. v.0) parts)) (each-values parts h)
+  values-by (Initializer-F.List place parts comma) h = along-keeps (StartsIn storage) (map (values_of storage) (map (λ v. v.0) parts)) (each-values parts (both (has_some (map is_spelled_start (map (λ v. v.0) parts))) (every (map is_spelled_start (map (λ v. v.0) parts))) h).1)
 
   values-node : (y : Initializer-F V) → SpelledKeeps (roll-Initializer (bare y))
   values-node y h =

@@ -8,3 +8,9 @@ pub mod Single
 pub mod Lists
 -- whole initializers
 pub mod Initial
+-- types of objects with few cells
+pub mod Shaped
+-- objects that are new, and the words that they begin with
+pub mod New
+-- declarators and declarations
+pub mod Declarations

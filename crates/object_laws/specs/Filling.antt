@@ -1,6 +1,7 @@
 -- Initializers and declarations as a text spells them, and what the parts of an initializer fill.
-use Rattle.std.specs.Prelude.{◌≡◌, ◌+◌, ℕ, Bool, true, List, [], ◌∷◌, ◌++◌, map, length}
+use Rattle.std.specs.Prelude.{◌≡◌, ◌+◌, ◌&&◌, ℕ, Bool, true, List, [], ◌∷◌, ◌++◌, map, length}
 use Rattle.hy_bits.specs.declared.scalar.Scalar.{Scalar}
+use Rattle.c_tree.specs.Expressions.{has_some}
 use Rattle.c_tree.specs.declared.statements.Initializer.{Initializer}
 use Rattle.c_tree.specs.declared.statements.Initializer.TheOpen.{Initializer-F}
 use Rattle.c_tree.specs.declared.statements.Initializer.TheFolds.{fold-Initializer}
@@ -23,7 +24,7 @@ use Rattle.source_laws.specs.Spelled.{every, is_spelled}
 
 abbrev pub start_spelled : Initializer-F Bool → Bool
 start_spelled (Initializer-F.Expression e) = is_spelled e
-start_spelled (Initializer-F.List place parts comma) = every parts
+start_spelled (Initializer-F.List place parts comma) = has_some parts && every parts
 
 abbrev pub is_spelled_start : Initializer → Bool
 is_spelled_start = fold-Initializer Bool start_spelled

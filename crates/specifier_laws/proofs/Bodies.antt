@@ -155,7 +155,7 @@ pub struct-keeps : (place : Place) (name : Option Identifier) (members : Option 
 struct-keeps place name None h = reference-keeps (struct_reference place) place name (λ name. struct-reference-keeps place name)
 struct-keeps place name (Some members) h = struct-body-keeps name members h.0 h.1
 
-object-type-passing : (place : Place) (q : QualifiedType) (env : Environment) → NamedIn env q → Passing (Stays (λ env q. PlainIn env q.ctype) env) (object_type place q env)
+pub object-type-passing : (place : Place) (q : QualifiedType) (env : Environment) → NamedIn env q → Passing (Stays (λ env q. PlainIn env q.ctype) env) (object_type place q env)
 object-type-passing place q env h =
     passing-if (Stays (λ env q. PlainIn env q.ctype) env) (layer_is_void (out-CType q.ctype)) (Breaks Mismatch place) (Passes q env)
     (λ e. tt) (λ e. (refl, named-plain env.structs q.ctype h e))
