@@ -1,5 +1,5 @@
 -- Parts one after another: what they fill together.
-use Rattle.std.proofs.Common.{◌≡◌, ◌≤◌, ◌<◌, ◌+◌, ℕ, zero, suc, true, Option, None, Some, List, [], ◌∷◌, ◌++◌, map, length, ap, sym, subst, ◌∙◌, refl, arith}
+use Rattle.std.proofs.Common.{◌≡◌, ◌+◌, ℕ, None, List, [], ◌∷◌, ◌++◌, map, ap, sym, subst, ◌∙◌, refl, arith}
 use Rattle.std.proofs.lemmas.List.{length-append}
 use Rattle.hy_bits.specs.declared.scalar.Scalar.{Scalar}
 use Rattle.hy_bits.specs.Scalar.{scalar_width}
@@ -7,7 +7,7 @@ use Rattle.hy_bits.specs.Words.{IsWord}
 use Rattle.c_meaning.specs.declared.types.ValueKind.TheVariants as kind
 use Rattle.c_meaning.specs.declared.statements.Part.{Part}
 use Rattle.c_meaning.specs.TypeRules.{Scope}
-use Rattle.c_meaning.specs.StatementRules.{PartsFill, PartFits, size_of_kind, WordsFit}
+use Rattle.c_meaning.specs.StatementRules.{PartsFill, size_of_kind, WordsFit}
 use Rattle.c_typing.specs.declared.environment.Environment.{Environment}
 use Rattle.c_objects.specs.declared.initializers.Storage.{Storage}
 use Rattle.c_objects.specs.declared.initializers.Storage.TheVariants.{Static, Automatic}

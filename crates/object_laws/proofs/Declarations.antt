@@ -1,8 +1,5 @@
 -- Declarators and declarations of objects (C11 6.7, 6.7.6): where their typing passes, they keep environments well formed.
-use Rattle.std.proofs.Common.{◌≡◌, ◌≤◌, ◌&&◌, ◌++◌, nat_le, ℕ, Bool, true, false, Option, None, Some, List, [], ◌∷◌, map, length, ap, sym, subst, ◌∙◌, refl, arith}
-use Rattle.std.proofs.lemmas.Grind.{common_steps}
-use Rattle.c_tree.specs.Expressions.{has_some}
-use Rattle.c_tree.specs.declared.token.Place.{Place}
+use Rattle.std.proofs.Common.{◌≡◌, ◌≤◌, ◌&&◌, ℕ, Bool, true, false, Option, None, Some, List, [], ◌∷◌, map, length, sym, subst, ◌∙◌, refl, arith}
 use Rattle.c_tree.specs.declared.expressions.Identifier.{Identifier}
 use Rattle.c_tree.specs.declared.expressions.Expr.{Expr}
 use Rattle.c_tree.specs.declared.expressions.Dimension.{Dimension}
@@ -14,12 +11,10 @@ use Rattle.c_tree.specs.declared.statements.Initializer.TheFolds.{fold_out-Initi
 use Rattle.c_tree.specs.declared.statements.Initialization.{Initialization}
 use Rattle.c_tree.specs.declared.statements.InitDeclarator.{InitDeclarator}
 use Rattle.c_tree.specs.declared.statements.Declaration.{Declaration}
-use Rattle.c_meaning.specs.declared.types.CType.{CType, out-CType}
-use Rattle.c_meaning.specs.declared.types.CType.TheOpen.{CType-F}
+use Rattle.c_meaning.specs.declared.types.CType.{CType}
 use Rattle.c_meaning.specs.declared.types.CType.TheVariants as ctype
 use Rattle.c_meaning.specs.declared.types.Qualifier.{Qualifier}
 use Rattle.c_meaning.specs.declared.types.StructType.{StructType}
-use Rattle.c_meaning.specs.declared.statements.TypedDeclarator.{TypedDeclarator}
 use Rattle.c_meaning.specs.StatementRules.{is_plain}
 use Rattle.c_conversions.specs.declared.fault.TypeKind.TheVariants.{Twice}
 use Rattle.c_typing.specs.declared.environment.Environment.{Environment}
@@ -28,22 +23,22 @@ use Rattle.c_typing.specs.Walks.{Checked, Breaks, Passes, after, each}
 use Rattle.c_typing.specs.Specifiers.{is_free, object_type, array_of}
 use Rattle.c_expressions.specs.Typing.{types_specs, types_dimension}
 use Rattle.c_objects.specs.declared.initializers.Storage.{Storage}
-use Rattle.c_objects.specs.Objects.{dimensioned, dimensioned_from, dimensioned_where, pointed, pointer_form, free_name, layer_list_length, list_length, declared_object, declarator_walk, declarator_after, object_specs, declaration_walk}
+use Rattle.c_objects.specs.Objects.{dimensioned, dimensioned_from, dimensioned_where, pointed, pointer_form, free_name, layer_list_length, list_length, declared_object, declarator_walk, object_specs}
 use Rattle.typing_laws.specs.Values.{IsPlainType}
 use Rattle.typing_laws.specs.Passing.{Passing}
-use Rattle.typing_laws.specs.Environments.{IsWellFormed, Extends}
+use Rattle.typing_laws.specs.Environments.{IsWellFormed}
 use Rattle.typing_laws.proofs.Environments.{extends-refl}
-use Rattle.expression_laws.specs.Keeping.{Each, Stays, Grown, Keeps, NamedIn}
+use Rattle.expression_laws.specs.Keeping.{Each, Grown, NamedIn}
 use Rattle.expression_laws.proofs.Steps.{passing-if, grown-in, grown-after}
 use Rattle.expression_laws.proofs.Weakened.{plain-kept}
 use Rattle.expression_laws.proofs.Walked.{each-keeps}
-use Rattle.specifier_laws.specs.Declared.{IsCount, CountIn, KeepsDimension, PlainIn}
+use Rattle.specifier_laws.specs.Declared.{CountIn, KeepsDimension, PlainIn}
 use Rattle.specifier_laws.proofs.Named.{arrays-are-plain}
 use Rattle.specifier_laws.proofs.Bodies.{object-type-passing}
 use Rattle.source_laws.specs.Spelled.{every, is_spelled_dimension, are_spelled_specs}
 use Rattle.source_laws.proofs.Sources.{specs-typed, dimension-typed}
 use Rattle.object_laws.specs.Filling.{start_spelled, is_spelled_start}
-use Rattle.object_laws.specs.Declaring.{start_spelled_where, is_spelled_init, is_spelled_declaration, IsShapedType, layer_is_shaped, DeclaratorIn}
+use Rattle.object_laws.specs.Declaring.{start_spelled_where, is_spelled_init, IsShapedType, layer_is_shaped, DeclaratorIn}
 use Rattle.object_laws.proofs.Shaped.{plain-shaped}
 use Rattle.object_laws.proofs.New.{object-passing}
 

@@ -16,7 +16,7 @@ use Rattle.c_meaning.specs.StatementRules.{PartsFill, WordsFit, layer_start_word
 use Rattle.c_conversions.specs.declared.fault.TypeKind.TheVariants.{NotConstant}
 use Rattle.c_typing.specs.declared.environment.Environment.{Environment}
 use Rattle.c_typing.specs.declared.values.TypedValue.{TypedValue}
-use Rattle.c_typing.specs.Walks.{Checked, Breaks, Passes, Walk, after, along}
+use Rattle.c_typing.specs.Walks.{Breaks, Passes, after}
 use Rattle.c_typing.specs.Expressions.{ExprWalk, valued}
 use Rattle.c_expressions.specs.Typing.{types_expr}
 use Rattle.c_objects.specs.declared.initializers.Storage.{Storage}
@@ -29,11 +29,11 @@ use Rattle.typing_laws.specs.Passing.{Passing, scope_of}
 use Rattle.typing_laws.specs.Environments.{IsWellFormed, Extends}
 use Rattle.typing_laws.proofs.Environments.{extends-refl}
 use Rattle.typing_laws.proofs.Valued.{plain-out}
-use Rattle.expression_laws.specs.Keeping.{Each, Stays, Grown, Keeps, KeepsExpr, ValueIn}
+use Rattle.expression_laws.specs.Keeping.{Each, Stays, Grown, KeepsExpr, ValueIn}
 use Rattle.expression_laws.proofs.Steps.{passing-if, grown-in, grown-after, stays-after}
 use Rattle.expression_laws.proofs.Weakened.{value-kept, place-type-kept}
 use Rattle.expression_laws.proofs.Walked.{along-keeps, valued-keeps}
-use Rattle.source_laws.specs.Spelled.{every, is_spelled}
+use Rattle.source_laws.specs.Spelled.{every}
 use Rattle.source_laws.proofs.Sources.{expr-typed}
 use Rattle.object_laws.specs.Filling.{start_spelled, is_spelled_start, StartIn, StartsIn, WordsWhere, Fills, FillsPointer, layer_fills, FillsType, KeepsFill, KeepsValues}
 use Rattle.object_laws.proofs.Single.{next-passing}

@@ -1,5 +1,5 @@
 -- Lists of initializers fill arrays and structs (C11 6.7.9p11, p17, p21).
-use Rattle.std.proofs.Common.{◌≡◌, ◌≤◌, ◌+◌, ◌-◌, ℕ, zero, suc, nat_le, Bool, true, false, if◌then◌else◌, Option, None, Some, List, [], ◌∷◌, ◌++◌, drop, length, ap, sym, subst, ◌∙◌, refl, arith}
+use Rattle.std.proofs.Common.{◌≡◌, ◌≤◌, ◌+◌, ◌-◌, ℕ, suc, nat_le, true, if◌then◌else◌, Option, None, Some, List, [], ◌∷◌, ◌++◌, drop, length, ap, sym, subst, ◌∙◌, refl, arith}
 use Rattle.std.proofs.lemmas.Grind.{common_steps}
 use Rattle.hy_bits.specs.declared.scalar.Scalar.{Scalar}
 use Rattle.c_tree.specs.declared.token.Place.{Place}
@@ -12,8 +12,8 @@ use Rattle.c_typing.specs.declared.environment.Environment.{Environment}
 use Rattle.c_typing.specs.declared.values.TypedValue.{TypedValue}
 use Rattle.c_typing.specs.Walks.{Breaks, Passes, after}
 use Rattle.c_objects.specs.declared.initializers.Storage.{Storage}
-use Rattle.c_objects.specs.Initializers.{Filled, with_zeros, without_values, next_dropped, layer_is_aggregate, is_aggregate, part_count, part_type, Filling, part_filled, parts_filled, zeros_from, aggregate_filled, single_filled, is_zero_list, list_filled}
-use Rattle.typing_laws.specs.Values.{IsPlainType, IsPlaceType, layer_is_place}
+use Rattle.c_objects.specs.Initializers.{Filled, with_zeros, next_dropped, layer_is_aggregate, is_aggregate, part_count, part_type, Filling, part_filled, parts_filled, zeros_from, aggregate_filled, single_filled, is_zero_list, list_filled}
+use Rattle.typing_laws.specs.Values.{IsPlainType, layer_is_place}
 use Rattle.typing_laws.specs.Passing.{Passing}
 use Rattle.typing_laws.specs.Environments.{IsWellFormed}
 use Rattle.typing_laws.proofs.Valued.{plain-out}

@@ -1,20 +1,17 @@
 -- Objects that are new, and the words that they begin with (C11 6.7, 6.7.9p10).
-use Rattle.std.proofs.Common.{◌≡◌, ◌⊎◌, inl, inr, ◌≤◌, ◌+◌, ◌++◌, ℕ, zero, suc, min, nat_le, Bool, true, Option, None, Some, List, [], ◌∷◌, map, length, replicate, slice_get, slice_set, ap, sym, subst, ◌∙◌, refl, arith}
+use Rattle.std.proofs.Common.{◌≡◌, ◌⊎◌, inl, inr, ◌≤◌, ◌+◌, ◌++◌, ℕ, zero, suc, min, nat_le, true, Option, None, Some, List, [], ◌∷◌, length, replicate, slice_get, slice_set, ap, sym, subst, ◌∙◌, refl, arith}
 use Rattle.std.proofs.lemmas.Grind.{common_steps}
 use Rattle.hy_bits.specs.declared.scalar.Scalar.{Scalar}
 use Rattle.hy_bits.specs.declared.scalar.Scalar.TheVariants.{S32}
 use Rattle.hy_bits.specs.Scalar.{scalar_width}
 use Rattle.hy_bits.specs.Words.{IsWord}
-use Rattle.c_tree.specs.declared.token.Place.{Place}
 use Rattle.c_tree.specs.declared.expressions.Identifier.{Identifier}
 use Rattle.c_tree.specs.declared.statements.Initialization.{Initialization}
 use Rattle.c_meaning.specs.declared.types.CType.{CType, out-CType, map-CType}
 use Rattle.c_meaning.specs.declared.types.CType.TheOpen.{CType-F}
 use Rattle.c_meaning.specs.declared.types.CType.TheFolds.{fold_out-CType}
 use Rattle.c_meaning.specs.declared.types.Object.{Object}
-use Rattle.c_meaning.specs.declared.types.StructType.{StructType}
 use Rattle.c_meaning.specs.declared.statements.Part.{Part}
-use Rattle.c_meaning.specs.declared.statements.TypedDeclarator.{TypedDeclarator}
 use Rattle.c_meaning.specs.Types.{cells_of, layer_cells, struct_cells, scalars_of, struct_scalars}
 use Rattle.c_meaning.specs.StatementRules.{StartWords, layer_start_words, WordsFit, PartsFill, StartFits, cells_in, most_cells}
 use Rattle.c_conversions.specs.declared.fault.TypeKind.TheVariants.{Cells}
@@ -27,21 +24,19 @@ use Rattle.c_typing.specs.Specifiers.{with_entity}
 use Rattle.c_objects.specs.declared.initializers.Storage.{Storage}
 use Rattle.c_objects.specs.declared.initializers.Storage.TheVariants.{Static, Automatic}
 use Rattle.c_objects.specs.Initializers.{initial_parts}
-use Rattle.c_objects.specs.Objects.{object_of, counted_more, with_object, new_object, static_word, static_words, with_words, parts_where, started, declared_object}
+use Rattle.c_objects.specs.Objects.{object_of, counted_more, with_object, new_object, static_words, with_words, parts_where, started, declared_object}
 use Rattle.cell_widths.proofs.CountLaws.{type_count, structs_count}
-use Rattle.typing_laws.specs.Scopes.{Grows}
 use Rattle.typing_laws.specs.Values.{IsPlainType, IsPlaceType, layer_is_place}
 use Rattle.typing_laws.specs.Passing.{Passing, scope_of}
 use Rattle.typing_laws.specs.Environments.{IsWellFormed, Extends}
 use Rattle.typing_laws.proofs.Environments.{extends-refl, extends-trans, grows-refl}
-use Rattle.typing_laws.proofs.Standing.{slice_get-grows}
 use Rattle.typing_laws.proofs.Postfix.{passing-after}
 use Rattle.expression_laws.specs.Keeping.{Grown}
 use Rattle.expression_laws.proofs.Steps.{passing-if, grown-after}
 use Rattle.constant_laws.proofs.Bounds.{two-most}
 use Rattle.specifier_laws.proofs.Lists.{pushed, put}
 use Rattle.object_laws.specs.Declaring.{start_spelled_where, IsShapedType, DeclaratorIn}
-use Rattle.object_laws.proofs.Initial.{words_start, StartsAt, initial-keeps}
+use Rattle.object_laws.proofs.Initial.{StartsAt, initial-keeps}
 use Rattle.object_laws.proofs.Shaped.{shaped-place, place-few}
 
 -- ---- lists

@@ -1,5 +1,5 @@
 -- The integers in the cells of arrays and structs, part by part.
-use Rattle.std.proofs.Common.{◌≡◌, ◌≤◌, ◌<◌, ◌+◌, ◌-◌, ℕ, zero, suc, nat_lt, Bool, true, Option, None, Some, option_map, List, [], ◌∷◌, ◌++◌, take, drop, length, slice_get, get_or, ap, sym, subst, ◌∙◌, refl, arith}
+use Rattle.std.proofs.Common.{◌≡◌, ◌≤◌, ◌<◌, ◌+◌, ◌-◌, ℕ, zero, suc, nat_lt, true, Option, None, Some, option_map, List, [], ◌∷◌, ◌++◌, take, length, slice_get, get_or, ap, sym, subst, ◌∙◌, refl, arith}
 use Rattle.std.proofs.lemmas.List.{length-append, get_or_append_left}
 use Rattle.std.proofs.lemmas.Grind.{common_steps}
 use Rattle.hy_bits.specs.declared.scalar.Scalar.{Scalar}
@@ -8,12 +8,11 @@ use Rattle.c_meaning.specs.declared.types.CType.TheOpen.{CType-F}
 use Rattle.c_meaning.specs.declared.types.CType.TheFolds.{fold_out-CType}
 use Rattle.c_meaning.specs.declared.types.Member.{Member}
 use Rattle.c_meaning.specs.declared.types.StructType.{StructType}
-use Rattle.c_meaning.specs.Types.{cells_of, struct_cells, repeated, layer_scalars, scalars_of, member_scalars, scalars_after, struct_scalars}
+use Rattle.c_meaning.specs.Types.{struct_cells, repeated, layer_scalars, scalars_of, member_scalars, scalars_after, struct_scalars}
 use Rattle.c_meaning.specs.StatementRules.{IsStruct, MembersFill, StructsFit, is_plain}
 use Rattle.c_objects.specs.Initializers.{members_in, layer_part_count, part_count, layer_part_type, part_type, layer_is_aggregate, is_aggregate}
 use Rattle.typing_laws.specs.Scopes.{Grows}
 use Rattle.typing_laws.specs.Values.{IsPlainType}
-use Rattle.typing_laws.specs.Passing.{MembersArePlain}
 use Rattle.typing_laws.proofs.Structs.{members-plain}
 use Rattle.typing_laws.proofs.Valued.{plain-out, element-plain}
 use Rattle.expression_laws.proofs.Weakened.{plain-stands}

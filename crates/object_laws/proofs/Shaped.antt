@@ -8,8 +8,8 @@ use Rattle.c_meaning.specs.declared.types.CType.TheFolds.{ind-CType, fold-roll-C
 use Rattle.c_meaning.specs.declared.types.Member.{Member}
 use Rattle.c_meaning.specs.declared.types.StructType.{StructType}
 use Rattle.c_meaning.specs.Types.{cells_of, layer_cells, struct_cells}
-use Rattle.c_meaning.specs.StatementRules.{IsStruct, MembersFill, StructsFit, is_plain, layer_is_plain, most_elements, most_cells}
-use Rattle.typing_laws.specs.Values.{IsPlainType, IsPlaceType, layer_is_place}
+use Rattle.c_meaning.specs.StatementRules.{MembersFill, StructsFit, is_plain, layer_is_plain, most_elements, most_cells}
+use Rattle.typing_laws.specs.Values.{IsPlaceType, layer_is_place}
 use Rattle.typing_laws.proofs.Valued.{plain-out}
 use Rattle.object_laws.specs.Declaring.{IsShapedType, layer_is_shaped}
 

@@ -1,5 +1,5 @@
 -- A value as a part of an object, by the object's type (C11 6.7.9p11).
-use Rattle.std.proofs.Common.{◌≡◌, ◌⊎◌, inl, inr, ◌≤◌, ◌+◌, ℕ, Bool, true, false, is_some, ◌&&◌, Option, None, Some, Result, min, List, [], ◌∷◌, length, ap, sym, subst, ◌∙◌, refl, arith}
+use Rattle.std.proofs.Common.{◌≡◌, ◌⊎◌, inl, inr, ◌+◌, ℕ, Bool, true, false, is_some, ◌&&◌, Some, min, List, [], ◌∷◌, length, ap, sym, subst, ◌∙◌, refl, arith}
 use Rattle.hy_bits.specs.declared.scalar.Scalar.{Scalar}
 use Rattle.hy_bits.specs.Scalar.{scalar_width}
 use Rattle.hy_bits.specs.Words.{IsWord}
@@ -14,26 +14,24 @@ use Rattle.c_meaning.specs.declared.types.Qualifier.TheVariants.{Unqualified}
 use Rattle.c_meaning.specs.declared.types.StructType.{StructType}
 use Rattle.c_meaning.specs.declared.types.ValueKind.{ValueKind}
 use Rattle.c_meaning.specs.declared.types.ValueKind.TheVariants as kind
-use Rattle.c_meaning.specs.declared.operators.Conversion.{Conversion}
 use Rattle.c_meaning.specs.declared.expressions.TypedExpr.{TypedExpr}
-use Rattle.c_meaning.specs.declared.statements.Part.{Part}
 use Rattle.c_meaning.specs.Types.{kind_of, layer_kind, cells_of, struct_cells, layer_cells, scalars_of, struct_scalars, layer_scalars}
 use Rattle.c_meaning.specs.Constants.{Constant, Variable, Faulty, Word, constant_of}
 use Rattle.c_meaning.specs.Counting.{word_where}
 use Rattle.c_meaning.specs.TypeRules.{ExprType, AnyPointer, Typed, of_scalar, type_of}
-use Rattle.c_meaning.specs.Rules.{IsTypedExpr, IsAssignable, layer_admits, is_pointer_type}
+use Rattle.c_meaning.specs.Rules.{layer_admits, is_pointer_type}
 use Rattle.c_meaning.specs.StatementRules.{PartsFill, size_of_kind, most_cells}
 use Rattle.c_conversions.specs.CTypes.{counted_cells}
 use Rattle.c_conversions.specs.Operators.{assigned}
 use Rattle.c_typing.specs.declared.environment.Environment.{Environment}
 use Rattle.c_typing.specs.declared.values.TypedValue.{TypedValue}
 use Rattle.c_typing.specs.Walks.{Checked, Passes, Walk, after, unless}
-use Rattle.c_typing.specs.Values.{operand_beside, kind_operand, admits, scalar_of, scalar_of_kind, converted}
+use Rattle.c_typing.specs.Values.{operand_beside, kind_operand, admits, scalar_of_kind, converted}
 use Rattle.c_typing.specs.Expressions.{assigned_to}
 use Rattle.c_objects.specs.declared.initializers.Storage.{Storage}
 use Rattle.c_objects.specs.declared.initializers.Storage.TheVariants.{Static, Automatic}
-use Rattle.c_objects.specs.Initializers.{Filled, with_part, without_values, next_filled, is_constant}
-use Rattle.c_objects.specs.Objects.{word_or_zero, static_word}
+use Rattle.c_objects.specs.Initializers.{Filled, with_part, without_values, next_filled}
+use Rattle.c_objects.specs.Objects.{word_or_zero}
 use Rattle.typing_laws.specs.Values.{IsPlainType, IsPlaceType, layer_is_place}
 use Rattle.typing_laws.specs.Passing.{Passing, scope_of}
 use Rattle.typing_laws.specs.Environments.{IsWellFormed}

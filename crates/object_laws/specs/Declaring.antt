@@ -1,5 +1,5 @@
 -- Declarations of objects as a text spells them, and what they declare.
-use Rattle.std.specs.Prelude.{◌≡◌, ◌≤◌, ◌&&◌, ℕ, Bool, true, nat_le, Option, None, Some, List, [], ◌∷◌, map, length}
+use Rattle.std.specs.Prelude.{◌≡◌, ◌≤◌, ◌&&◌, Bool, true, Option, None, Some, List, map, length}
 use Rattle.c_tree.specs.declared.statements.Initialization.{Initialization}
 use Rattle.c_tree.specs.declared.statements.InitDeclarator.{InitDeclarator}
 use Rattle.c_tree.specs.declared.statements.Declaration.{Declaration}
