@@ -120,7 +120,7 @@ module _ (name : Identifier) (q : QualifiedType) (env : Environment) where
       extends = record {
         structs = grows-refl env.structs;
         objects = (object ∷ [], refl);
-        functions = grows-refl env.functions;
+        functions = refl;
         typedefs = grows-refl env.typedefs;
         entities = (entity.Object (length env.objects) ∷ [], refl);
         names = (record { name = name.text; number = length env.entities } ∷ [], refl);

@@ -56,7 +56,7 @@ module _ (name : List ℕ) (m : Members) (env : Environment) (well : IsWellForme
   struct-extends = record {
     structs = (s ∷ [], refl);
     objects = grows-refl env.objects;
-    functions = grows-refl env.functions;
+    functions = refl;
     typedefs = grows-refl env.typedefs;
     entities = grows-refl env.entities;
     names = grows-refl env.names.bound;

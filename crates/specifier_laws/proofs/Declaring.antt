@@ -27,7 +27,7 @@ module _ (name : List ℕ) (e : Entity) (env : Environment) where
   entity-extends = record {
     structs = grows-refl env.structs;
     objects = grows-refl env.objects;
-    functions = grows-refl env.functions;
+    functions = refl;
     typedefs = grows-refl env.typedefs;
     entities = (e ∷ [], refl);
     names = (record { name = name; number = length env.entities } ∷ [], refl);
@@ -69,7 +69,7 @@ module _ (t : Tag) (env : Environment) where
   tag-extends name = record {
     structs = grows-refl env.structs;
     objects = grows-refl env.objects;
-    functions = grows-refl env.functions;
+    functions = refl;
     typedefs = grows-refl env.typedefs;
     entities = grows-refl env.entities;
     names = grows-refl env.names.bound;
@@ -96,7 +96,7 @@ module _ (t : Tag) (env : Environment) where
   put-extends n = record {
     structs = grows-refl env.structs;
     objects = grows-refl env.objects;
-    functions = grows-refl env.functions;
+    functions = refl;
     typedefs = grows-refl env.typedefs;
     entities = grows-refl env.entities;
     names = grows-refl env.names.bound;

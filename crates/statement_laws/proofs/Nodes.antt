@@ -103,7 +103,7 @@ module _ (within : Within) where
   selection-made y x s same is fits =
       subst (IsUncountedSelection within) is (T.every_made-TypedSelection (ItemFits within) (IterationUncounted within) (SelectionFits within) (StatementFits within) NoRule NoRule x y same fits)
 
-  abbrev OtherwiseFits : Option TypedStatement → Type 0
+  abbrev pub OtherwiseFits : Option TypedStatement → Type 0
   OtherwiseFits None = Unit {0}
   OtherwiseFits (Some s) = IsUncountedStatement within s
 

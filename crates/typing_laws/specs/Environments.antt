@@ -26,11 +26,11 @@ pub record IsWellFormed (env : Environment) : Type 0 where
   pub few : env.cells ≤ most_cells
   pub enumerators : (k w : ℕ) → slice_get env.entities k ≡ Some (entity.Enumerator w) → IsWord (scalar_width S32) w
 
--- declarations stand at the end of each list. A struct's tag is told anew when its members stand
+-- declarations within a function, or between functions, stand at the end of each list. A struct's tag is told anew when its members stand
 pub record Extends (old new : Environment) : Type 0 where
   pub structs : Grows old.structs new.structs
   pub objects : Grows old.objects new.objects
-  pub functions : Grows old.functions new.functions
+  pub functions : new.functions ≡ old.functions
   pub typedefs : Grows old.typedefs new.typedefs
   pub entities : Grows old.entities new.entities
   pub names : Grows old.names.bound new.names.bound
