@@ -1,0 +1,2 @@
+-- statements as a text spells them, and walks of them
+pub mod Statements
