@@ -46,10 +46,10 @@ both : (a b : Bool) → (a && b) ≡ true → (a ≡ true) × (b ≡ true)
 both true b h = (refl, h)
 both false b h = absurd (cc)
 
-abbrev AnyIn : {A : Type 0} → Environment → A → Type 0
+abbrev pub AnyIn : {A : Type 0} → Environment → A → Type 0
 AnyIn env a = Unit {0}
 
-abbrev ShapedIn : Environment → CType → Type 0
+abbrev pub ShapedIn : Environment → CType → Type 0
 ShapedIn env c = IsShapedType env.structs c
 
 -- ---- dimensions (C11 6.7.6.2)
@@ -59,10 +59,10 @@ dimensions-keep [] h = tt
 dimensions-keep (d ∷ ds) h = let b = both (is_spelled_dimension d) (every (map is_spelled_dimension ds)) h in (dimension-typed d b.0, dimensions-keep ds b.1)
 
 -- an array over a type without pointers
-abbrev PlainlyIn : Environment → CType → Type 0
+abbrev pub PlainlyIn : Environment → CType → Type 0
 PlainlyIn env c = is_plain (length env.structs) c ≡ true
 
-dimensioned-passing : (ds : List Dimension) (c : CType) (env : Environment) → every (map is_spelled_dimension ds) ≡ true → IsWellFormed env → PlainIn env c → Passing (Grown PlainlyIn env) (dimensioned ds c env)
+pub dimensioned-passing : (ds : List Dimension) (c : CType) (env : Environment) → every (map is_spelled_dimension ds) ≡ true → IsWellFormed env → PlainIn env c → Passing (Grown PlainlyIn env) (dimensioned ds c env)
 dimensioned-passing ds c env h well plain =
     grown-after (λ env ns. Each (CountIn env) ns) PlainlyIn env (each (map types_dimension ds) env) (λ counts env. Passes (array_of counts c) env)
     (each-keeps CountIn (map types_dimension ds) (λ old new g w n k. k) (dimensions-keep ds h) env well)
@@ -100,7 +100,7 @@ where-passing None ds c env some h well plain = shaped-after env (dimensioned ds
 where-passing (Some count) ds c env some h well plain = from-passing count ds c env some h well plain
 
 -- without dimensions the type is as it is
-none-passing : (count : Option ℕ) (c : CType) (env : Environment) → IsWellFormed env → PlainIn env c → Passing (Grown PlainIn env) (dimensioned_where count [] c env)
+pub none-passing : (count : Option ℕ) (c : CType) (env : Environment) → IsWellFormed env → PlainIn env c → Passing (Grown PlainIn env) (dimensioned_where count [] c env)
 none-passing None c env well plain = (extends-refl env, well, plain)
 none-passing (Some count) c env well plain = (extends-refl env, well, plain)
 

@@ -53,7 +53,7 @@ append-one : {A : Type 0} (xs : List A) (y : A) (zs : List A) → (xs ++ y ∷ [
 append-one [] y zs = refl
 append-one (x ∷ xs) y zs = ap (λ us. x ∷ us) (append-one xs y zs)
 
-cells-more : (objects : List Object) (object : Object) → cells_in (objects ++ object ∷ []) ≡ cells_in objects + object.cells
+pub cells-more : (objects : List Object) (object : Object) → cells_in (objects ++ object ∷ []) ≡ cells_in objects + object.cells
 cells-more [] object = omega arith
 cells-more (first ∷ objects) object = let rest = cells-more objects object in omega (arith, rest)
 
@@ -65,10 +65,10 @@ cells-put (first ∷ objects) zero old new e h =
     omega (arith, is)
 cells-put (first ∷ objects) (suc k) old new e h = let rest = cells-put objects k old new e h in omega (arith, rest)
 
-counted-few : (most cells : ℕ) → cells ≤ most → min cells (most + 1) ≡ cells
+pub counted-few : (most cells : ℕ) → cells ≤ most → min cells (most + 1) ≡ cells
 counted-few most cells h = omega (arith, h)
 
-counted-least : (most before cells : ℕ) → before + min cells (most + 1) ≤ most → cells ≤ most
+pub counted-least : (most before cells : ℕ) → before + min cells (most + 1) ≤ most → cells ≤ most
 counted-least most before cells h = omega (arith, h)
 
 -- ---- a new object
