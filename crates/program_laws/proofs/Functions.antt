@@ -1,0 +1,212 @@
+-- Functions (C11 6.9.1): where their typing passes, they keep the rules of typed programs but those of counters and jumps.
+use Rattle.std.proofs.Common.{◌≡◌, ◌⊎◌, inl, inr, ◌≤◌, ◌<◌, ◌&&◌, ◌++◌, ℕ, Bool, true, false, if◌then◌else◌, Option, Some, List, [], ◌∷◌, length, slice_get, ap, sym, subst, ◌∙◌, refl, arith}
+use Rattle.std.proofs.lemmas.Grind.{common_steps}
+use Rattle.hy_bits.specs.declared.scalar.Scalar.TheVariants.{S32}
+use Rattle.hy_bits.specs.Scalar.{scalar_width}
+use Rattle.hy_bits.specs.Words.{IsWord}
+use Rattle.c_tree.specs.declared.expressions.Identifier.{Identifier}
+use Rattle.c_tree.specs.declared.expressions.Specifiers.{Specifiers}
+use Rattle.c_tree.specs.declared.programs.Function.{Function}
+use Rattle.c_meaning.specs.declared.types.CType.{CType, out-CType}
+use Rattle.c_meaning.specs.declared.types.CType.TheOpen.{CType-F}
+use Rattle.c_meaning.specs.declared.types.ValueKind.{ValueKind}
+use Rattle.c_meaning.specs.declared.types.ValueKind.TheVariants as kind
+use Rattle.c_meaning.specs.declared.types.Object.{Object}
+use Rattle.c_meaning.specs.declared.types.StructType.{StructType}
+use Rattle.c_meaning.specs.declared.programs.TypedFunction.{TypedFunction}
+use Rattle.c_meaning.specs.Types.{kind_of}
+use Rattle.c_meaning.specs.StatementRules.{is_result, layer_is_result}
+use Rattle.c_meaning.specs.Uses.{taken_by}
+use Rattle.c_conversions.specs.declared.fault.TypeKind.TheVariants.{Mismatch, NoEntry}
+use Rattle.c_typing.specs.declared.environment.Entity.TheVariants as entity
+use Rattle.c_typing.specs.declared.environment.Environment.{Environment}
+use Rattle.c_typing.specs.Walks.{Breaks, Passes, after}
+use Rattle.c_expressions.specs.Typing.{types_specs}
+use Rattle.c_objects.specs.Objects.{free_name}
+use Rattle.c_heads.specs.declared.context.Body.{Body}
+use Rattle.c_bodies.specs.Statements.{types_block}
+use Rattle.c_programs.specs.declared.functions.Whole.{Whole}
+use Rattle.c_programs.specs.Parameters.{head_of}
+use Rattle.c_programs.specs.Programs.{is_entry, layer_is_array, result_type, entry_result, begun, nothing_around, whole_walk, scoped_whole, with_function, Ports, ports_where, body_of, function_rest, function_walk}
+use Rattle.typing_laws.specs.Scopes.{Grows}
+use Rattle.typing_laws.specs.Passing.{Passing}
+use Rattle.typing_laws.specs.Environments.{IsWellFormed, Extends}
+use Rattle.typing_laws.proofs.Environments.{extends-refl, grows-refl, grows-trans}
+use Rattle.typing_laws.proofs.Valued.{plain-out}
+use Rattle.typing_laws.proofs.Postfix.{passing-after}
+use Rattle.expression_laws.specs.Keeping.{Grown, Keeps, NamedIn, layer_is_named}
+use Rattle.expression_laws.proofs.Steps.{passing-if, grown-after}
+use Rattle.expression_laws.proofs.Weakened.{no-shorter}
+use Rattle.specifier_laws.proofs.Lists.{pushed}
+use Rattle.specifier_laws.proofs.Closing.{result-kept}
+use Rattle.source_laws.specs.Spelled.{are_spelled_specs}
+use Rattle.source_laws.proofs.Sources.{specs-typed}
+use Rattle.object_laws.proofs.Declarations.{AnyIn, free-passing}
+use Rattle.statement_laws.proofs.Scoping.{scoped-keeps}
+use Rattle.body_laws.specs.Statements.{is_spelled_block, BlockIn}
+use Rattle.body_laws.proofs.Bounds.{FewWhere}
+use Rattle.body_laws.proofs.Trees.{block-typed}
+use Rattle.program_laws.specs.Programs.{are_spelled_parameters, is_spelled_function, IsUncountedFunction, UncountedFunctions, FunctionsIn}
+use Rattle.program_laws.proofs.Parameters.{HeadIn, parameters-kept, head-keeps}
+
+both : (a b : Bool) → (a && b) ≡ true → (a ≡ true) × (b ≡ true)
+both true b h = (refl, h)
+both false b h = absurd (cc)
+
+-- ---- between external declarations
+
+pub record IsGood (env : Environment) : Type 0 where
+  pub well : IsWellFormed env
+  pub functions : FunctionsIn env
+
+abbrev pub GoodAfter : {A : Type 0} → A → Environment → Type 0
+GoodAfter a env = IsGood env
+
+pub functions-kept : (old new : Environment) → Extends old new → FunctionsIn old → FunctionsIn new
+functions-kept old new g h = λ structs objects gs go.
+    subst (λ (fs : List TypedFunction). UncountedFunctions structs objects [] fs) (sym g.functions)
+    (h structs objects (grows-trans old.structs new.structs structs g.structs gs) (grows-trans old.objects new.objects objects g.objects go))
+
+append-one : {A : Type 0} (xs : List A) (y : A) (zs : List A) → (xs ++ y ∷ []) ++ zs ≡ xs ++ y ∷ zs
+append-one [] y zs = refl
+append-one (x ∷ xs) y zs = ap (λ us. x ∷ us) (append-one xs y zs)
+
+append-none : {A : Type 0} (xs : List A) → xs ++ [] ≡ xs
+append-none [] = refl
+append-none (x ∷ xs) = ap (λ us. x ∷ us) (append-none xs)
+
+functions-pushed : (structs : List StructType) (objects : List Object) (before fs : List TypedFunction) (f : TypedFunction) → UncountedFunctions structs objects before fs
+    → IsUncountedFunction (record { structs = structs; objects = objects; functions = before ++ fs }) f → UncountedFunctions structs objects before (fs ++ f ∷ [])
+functions-pushed structs objects before [] f h is =
+    (subst (λ (gs : List TypedFunction). IsUncountedFunction (record { structs = structs; objects = objects; functions = gs }) f) (append-none before) is, tt)
+functions-pushed structs objects before (x ∷ fs) f h is = (
+  h.0,
+  functions-pushed structs objects (before ++ x ∷ []) fs f h.1
+      (subst (λ (gs : List TypedFunction). IsUncountedFunction (record { structs = structs; objects = objects; functions = gs }) f) (sym (append-one before x fs)) is),
+)
+
+-- ---- results
+
+abbrev ResultIn : Environment → CType → Type 0
+ResultIn env c = is_result (length env.structs) c ≡ true
+
+named-result : (structs : List StructType) (c : CType) (y : CType-F CType) → out-CType c ≡ y → layer_is_named structs c y → layer_is_array y ≡ false → layer_is_result (length structs) y ≡ true
+named-result structs c CType-F.Void e h a = refl
+named-result structs c (CType-F.Int t) e h a = refl
+named-result structs c (CType-F.Array count element) e h a = absurd (cc)
+named-result structs c (CType-F.Struct number) e h a = sym (plain-out structs c (CType-F.Struct number) e) ∙ h.0
+named-result structs c (CType-F.Pointer q to) e h a = absurd (cc (plain-out structs c (CType-F.Pointer q to) e, h.0))
+
+result-keeps : (specs : Specifiers) → are_spelled_specs specs ≡ true → Keeps ResultIn (result_type specs)
+result-keeps specs h = λ env well.
+    grown-after NamedIn ResultIn env ((types_specs specs).walk env) (λ q env. if layer_is_array (out-CType q.ctype) then Breaks Mismatch (types_specs specs).place else Passes q.ctype env) (specs-typed specs h env well)
+    (λ q new g w r. passing-if (Grown ResultIn new) (layer_is_array (out-CType q.ctype)) (Breaks Mismatch (types_specs specs).place) (Passes q.ctype new)
+    (λ e. tt) (λ e. (extends-refl new, w, named-result new.structs q.ctype (out-CType q.ctype) refl r e)))
+
+result-more-layer : (a b : ℕ) (y : CType-F CType) → a ≤ b → layer_is_result a y ≡ true → layer_is_result b y ≡ true
+result-more-layer a b CType-F.Void more h = h
+result-more-layer a b (CType-F.Int t) more h = h
+result-more-layer a b (CType-F.Array count element) more h = h
+result-more-layer a b (CType-F.Struct number) more h =
+    let within : number < a = grind (arith, common_steps) in
+    let still : number < b = omega (arith, within, more) in
+    grind (arith, common_steps)
+result-more-layer a b (CType-F.Pointer q to) more h = h
+
+entry-result-at : (name : Identifier) (k : ValueKind) (env : Environment) → IsWellFormed env
+    → Passing (Grown (AnyIn {A = Unit {0}}) env) (elim k [
+      | kind.Void ↦ if is_entry name then Breaks NoEntry name.place else Passes tt env
+      | kind.Integer t ↦ Passes tt env
+      | kind.Pointer ↦ Passes tt env
+      | kind.Struct number ↦ Passes tt env
+    ])
+entry-result-at name kind.Void env well = passing-if (Grown AnyIn env) (is_entry name) (Breaks NoEntry name.place) (Passes tt env) (λ e. tt) (λ e. (extends-refl env, well, tt))
+entry-result-at name (kind.Integer t) env well = (extends-refl env, well, tt)
+entry-result-at name kind.Pointer env well = (extends-refl env, well, tt)
+entry-result-at name (kind.Struct number) env well = (extends-refl env, well, tt)
+
+-- ---- a function
+
+module _ (name : Identifier) (env : Environment) where
+  begun-enumerator : (well : IsWellFormed env) → (k w : ℕ) → (slice_get env.entities k ≡ Some (entity.Enumerator w)) ⊎ (entity.Function (length env.functions) ≡ entity.Enumerator w) → IsWord (scalar_width S32) w
+  begun-enumerator well k w (inl before) = well.enumerators k w before
+  begun-enumerator well k w (inr same) = absurd (cc)
+
+  begun-well : IsWellFormed env → IsWellFormed (begun name env)
+  begun-well well = record {
+    structs = well.structs;
+    objects = well.objects;
+    typedefs = well.typedefs;
+    functions = well.functions;
+    tags = well.tags;
+    starts = well.starts;
+    cells = well.cells;
+    few = well.few;
+    enumerators = λ k w e. begun-enumerator well k w (pushed env.entities (entity.Function (length env.functions)) k (entity.Enumerator w) e);
+  }
+
+abbrev WholeIn : Body → Environment → Whole → Type 0
+WholeIn body env whole = HeadIn env whole.head × BlockIn body env whole.body
+
+whole-keeps : (f : Function) (body : Body) → FewWhere body.bound → are_spelled_parameters f.parameters ≡ true → is_spelled_block f.body ≡ true → Keeps (WholeIn body) (whole_walk f body)
+whole-keeps f body few p h = λ env well.
+    grown-after HeadIn (WholeIn body) env (head_of (is_entry f.name) f.parameters env)
+    (λ head env. after (types_block body f.body nothing_around env) (λ block env. Passes (record { head = head; body = block }) env)) (head-keeps (is_entry f.name) f.parameters p env well)
+    (λ head new g w r. grown-after (BlockIn body) (WholeIn body) new (types_block body f.body nothing_around new) (λ block env. Passes (record { head = head; body = block }) env)
+    (block-typed body few f.body h nothing_around new w)
+    (λ block last j u b. (extends-refl last, u, (parameters-kept new.objects last.objects j.objects head.parameters r, b))))
+
+module _ (name : Identifier) (result : CType) (old : Environment) (good : IsGood old) (is : ResultIn old result) (body : Body) (same : body.result ≡ result)
+    (whole : Whole) (new : Environment) (g : Extends old new) (well : IsWellFormed new) (r : WholeIn body new whole) where
+  abbrev f : TypedFunction
+  f = record { name = name.text; place = name.place; result = result; params = whole.head.parameters; body = whole.body }
+
+  function-by : (k : ℕ) (x : TypedFunction) → (slice_get new.functions k ≡ Some x) ⊎ (f ≡ x) → is_result (length new.structs) x.result ≡ true
+  function-by k x (inl before) = well.functions k x before
+  function-by k x (inr equal) = subst (λ (y : TypedFunction). is_result (length new.structs) y.result ≡ true) equal (result-kept old new g good.well result is)
+
+  function-is : (structs : List StructType) (objects : List Object) → Grows new.structs structs → Grows new.objects objects → IsUncountedFunction (record { structs = structs; objects = objects; functions = new.functions }) f
+  function-is structs objects gs go = record {
+    result = result-more-layer (length new.structs) (length structs) (out-CType result) (no-shorter new.structs structs gs) (result-kept old new g good.well result is);
+    params = parameters-kept new.objects objects go whole.head.parameters r.0;
+    body = r.1 (record { scope = record { structs = structs; objects = objects; functions = new.functions }; result = result; taken = taken_by whole.body })
+        (record { structs = gs; objects = go; functions = grows-refl new.functions }, sym same);
+  }
+
+  function-good : IsGood (with_function name result whole new)
+  function-good = record {
+    well = record {
+      structs = well.structs;
+      objects = well.objects;
+      typedefs = well.typedefs;
+      functions = λ k x e. function-by k x (pushed new.functions f k x e);
+      tags = well.tags;
+      starts = well.starts;
+      cells = well.cells;
+      few = well.few;
+      enumerators = well.enumerators;
+    };
+    functions = λ structs objects gs go. functions-pushed structs objects [] new.functions f (functions-kept old new g good.functions structs objects gs go) (function-is structs objects gs go);
+  }
+
+rest-passing : (bound : Option ℕ) (f : Function) (result : CType) (ports : Ports) (env : Environment) → FewWhere bound → are_spelled_parameters f.parameters ≡ true → is_spelled_block f.body ≡ true → IsGood env → ResultIn env result
+    → Passing GoodAfter (function_rest bound f result ports env)
+rest-passing bound f result ports env few p h good is =
+    let body = body_of bound f result env in
+    passing-after (Grown (WholeIn body) env) GoodAfter (scoped_whole f body env) (λ whole env. Passes (ports_where (is_entry f.name) whole.head.ports ports) (with_function f.name result whole env))
+    (scoped-keeps (WholeIn body) (whole_walk f body) (λ env a r. r) (whole-keeps f body few p h) env good.well)
+    (λ whole new r. function-good f.name result env good is body refl whole new r.0 r.1 r.2)
+
+pub function-passing : (bound : Option ℕ) (f : Function) (ports : Ports) (env : Environment) → FewWhere bound → is_spelled_function f ≡ true → IsGood env → Passing GoodAfter (function_walk bound f ports env)
+function-passing bound f ports env few h good =
+    let a = both (are_spelled_specs f.specs && are_spelled_parameters f.parameters) (is_spelled_block f.body) h in
+    let b = both (are_spelled_specs f.specs) (are_spelled_parameters f.parameters) a.0 in
+    passing-after (Grown ResultIn env) GoodAfter (result_type f.specs env)
+    (λ result env. after (free_name f.name env) (λ _ env. after (entry_result f.name result env) (λ _ env. function_rest bound f result ports (begun f.name env)))) (result-keeps f.specs b.0 env good.well)
+    (λ result one r. passing-after (Grown AnyIn one) GoodAfter (free_name f.name one) (λ _ env. after (entry_result f.name result env) (λ _ env. function_rest bound f result ports (begun f.name env)))
+    (free-passing f.name one r.1)
+    (λ u two s. passing-after (Grown AnyIn two) GoodAfter (entry_result f.name result two) (λ _ env. function_rest bound f result ports (begun f.name env)) (entry-result-at f.name (kind_of result) two s.1)
+    (λ v three t.
+    let kept = functions-kept two three t.0 (functions-kept one two s.0 (functions-kept env one r.0 good.functions)) in
+    rest-passing bound f result ports (begun f.name three) few b.1 a.1 (record { well = begun-well f.name three t.1; functions = λ structs objects gs go. kept structs objects gs go })
+    (result-kept two three t.0 s.1 result (result-kept one two s.0 r.1 result r.2)))))
