@@ -41,7 +41,7 @@ use Rattle.body_laws.proofs.Bounds.{FewWhere}
 use Rattle.body_laws.proofs.Blocks.{alone-keeps}
 use Rattle.program_laws.specs.Programs.{is_spelled_external}
 use Rattle.program_laws.proofs.Parameters.{few-passing}
-use Rattle.program_laws.proofs.Functions.{IsGood, GoodAfter, functions-kept, function-passing}
+use Rattle.program_laws.proofs.Functions.{IsGood, GoodAfter, good-kept, function-passing}
 
 both : (a b : Bool) → (a && b) ≡ true → (a ≡ true) × (b ≡ true)
 both true b h = (refl, h)
@@ -132,7 +132,7 @@ objects-keep declaration h = λ env well.
 
 good-after : {A : Type 0} (env : Environment) (c : Checked A) (ports : Ports) → IsGood env → Passing (Grown AnyIn env) c → Passing GoodAfter (after c (λ _ env. Passes ports env))
 good-after env (Breaks kind place) ports good h = tt
-good-after env (Passes a new) ports good h = record { well = h.1; functions = functions-kept env new h.0 good.functions }
+good-after env (Passes a new) ports good h = good-kept env new h.0 h.1 good
 
 pub external-passing : (bound : Option ℕ) (x : ExternalDeclaration) (ports : Ports) (env : Environment) → FewWhere bound → is_spelled_external x ≡ true → IsGood env → Passing GoodAfter (item_walk bound x ports env)
 external-passing bound (external.Typedef place specs name dimensions) ports env few h good =

@@ -1,9 +1,11 @@
 -- Functions (C11 6.9.1): where their typing passes, they keep the rules of typed programs but those of counters and jumps.
-use Rattle.std.proofs.Common.{◌≡◌, ◌⊎◌, inl, inr, ◌≤◌, ◌<◌, ◌&&◌, ◌++◌, ℕ, Bool, true, false, if◌then◌else◌, Option, Some, List, [], ◌∷◌, length, slice_get, ap, sym, subst, ◌∙◌, refl, arith}
+use Rattle.std.proofs.Common.{◌≡◌, ◌⊎◌, inl, inr, ◌≤◌, ◌<◌, ◌&&◌, ◌++◌, ℕ, Bool, true, false, if◌then◌else◌, Option, None, Some, List, [], ◌∷◌, length, slice_get, ap, sym, subst, ◌∙◌, refl, arith, not, is_some, map, drop, Contains}
 use Rattle.std.proofs.lemmas.Grind.{common_steps}
+use Rattle.std.proofs.lemmas.List.Elements.{Contains-append_left, Contains-push, Contains-push_cases}
 use Rattle.hy_bits.specs.declared.scalar.Scalar.TheVariants.{S32}
 use Rattle.hy_bits.specs.Scalar.{scalar_width}
 use Rattle.hy_bits.specs.Words.{IsWord}
+use Rattle.c_tree.specs.Names.{is_name}
 use Rattle.c_tree.specs.declared.expressions.Identifier.{Identifier}
 use Rattle.c_tree.specs.declared.expressions.Specifiers.{Specifiers}
 use Rattle.c_tree.specs.declared.programs.Function.{Function}
@@ -15,12 +17,14 @@ use Rattle.c_meaning.specs.declared.types.Object.{Object}
 use Rattle.c_meaning.specs.declared.types.StructType.{StructType}
 use Rattle.c_meaning.specs.declared.programs.TypedFunction.{TypedFunction}
 use Rattle.c_meaning.specs.Types.{kind_of}
-use Rattle.c_meaning.specs.StatementRules.{is_result, layer_is_result}
+use Rattle.c_meaning.specs.StatementRules.{AreNames, is_result, layer_is_result}
 use Rattle.c_meaning.specs.Uses.{taken_by}
-use Rattle.c_conversions.specs.declared.fault.TypeKind.TheVariants.{Mismatch, NoEntry}
+use Rattle.c_conversions.specs.declared.fault.TypeKind.TheVariants.{Mismatch, NoEntry, Twice}
+use Rattle.c_scopes.specs.Scopes.{Bound, found, before}
 use Rattle.c_typing.specs.declared.environment.Entity.TheVariants as entity
 use Rattle.c_typing.specs.declared.environment.Environment.{Environment}
 use Rattle.c_typing.specs.Walks.{Breaks, Passes, after}
+use Rattle.c_typing.specs.Specifiers.{is_free}
 use Rattle.c_expressions.specs.Typing.{types_specs}
 use Rattle.c_objects.specs.Objects.{free_name}
 use Rattle.c_heads.specs.declared.context.Body.{Body}
@@ -34,14 +38,14 @@ use Rattle.typing_laws.specs.Environments.{IsWellFormed, Extends}
 use Rattle.typing_laws.proofs.Environments.{extends-refl, grows-refl, grows-trans}
 use Rattle.typing_laws.proofs.Valued.{plain-out}
 use Rattle.typing_laws.proofs.Postfix.{passing-after}
-use Rattle.expression_laws.specs.Keeping.{Grown, Keeps, NamedIn, layer_is_named}
-use Rattle.expression_laws.proofs.Steps.{passing-if, grown-after}
+use Rattle.expression_laws.specs.Keeping.{Stays, Grown, Keeps, NamedIn, layer_is_named}
+use Rattle.expression_laws.proofs.Steps.{passing-if, grown-after, stays-after}
 use Rattle.expression_laws.proofs.Weakened.{no-shorter}
-use Rattle.specifier_laws.proofs.Lists.{pushed}
+use Rattle.specifier_laws.proofs.Lists.{pushed, names-pushed, unfound}
 use Rattle.specifier_laws.proofs.Closing.{result-kept}
 use Rattle.source_laws.specs.Spelled.{are_spelled_specs}
 use Rattle.source_laws.proofs.Sources.{specs-typed}
-use Rattle.object_laws.proofs.Declarations.{AnyIn, free-passing}
+use Rattle.object_laws.proofs.Declarations.{AnyIn}
 use Rattle.statement_laws.proofs.Scoping.{scoped-keeps}
 use Rattle.body_laws.specs.Statements.{is_spelled_block, BlockIn}
 use Rattle.body_laws.proofs.Bounds.{FewWhere}
@@ -55,17 +59,44 @@ both false b h = absurd (cc)
 
 -- ---- between external declarations
 
+abbrev pub names_bound : List Bound → List (List ℕ)
+names_bound bound = map (λ b. b.name) bound
+
+abbrev pub function_names : List TypedFunction → List (List ℕ)
+function_names fs = map (λ f. f.name) fs
+
 pub record IsGood (env : Environment) : Type 0 where
   pub well : IsWellFormed env
   pub functions : FunctionsIn env
+  pub named : AreNames (function_names env.functions)
+  pub bound : (name : List ℕ) → Contains (function_names env.functions) name → Contains (names_bound env.names.bound) name
+  pub outer : env.names.opened ≡ []
 
 abbrev pub GoodAfter : {A : Type 0} → A → Environment → Type 0
 GoodAfter a env = IsGood env
 
-pub functions-kept : (old new : Environment) → Extends old new → FunctionsIn old → FunctionsIn new
+functions-kept : (old new : Environment) → Extends old new → FunctionsIn old → FunctionsIn new
 functions-kept old new g h = λ structs objects gs go.
     subst (λ (fs : List TypedFunction). UncountedFunctions structs objects [] fs) (sym g.functions)
     (h structs objects (grows-trans old.structs new.structs structs g.structs gs) (grows-trans old.objects new.objects objects g.objects go))
+
+map-append : {A B : Type 0} (f : A → B) (xs ys : List A) → map f (xs ++ ys) ≡ map f xs ++ map f ys
+map-append f [] ys = refl
+map-append f (x ∷ xs) ys = ap (λ us. f x ∷ us) (map-append f xs ys)
+
+bound-kept : (old new : Environment) → Extends old new → (name : List ℕ) → Contains (names_bound old.names.bound) name → Contains (names_bound new.names.bound) name
+bound-kept old new g name h =
+    let is : names_bound new.names.bound ≡ names_bound old.names.bound ++ names_bound g.names.0 = ap (λ (bs : List Bound). names_bound bs) g.names.1 ∙ map-append (λ (b : Bound). b.name) old.names.bound g.names.0 in
+    subst (λ (names : List (List ℕ)). Contains names name) (sym is) (Contains-append_left (names_bound old.names.bound) (names_bound g.names.0) name h)
+
+pub good-kept : (old new : Environment) → Extends old new → IsWellFormed new → IsGood old → IsGood new
+good-kept old new g well good = record {
+  well = well;
+  functions = functions-kept old new g good.functions;
+  named = subst (λ (fs : List TypedFunction). AreNames (function_names fs)) (sym g.functions) good.named;
+  bound = λ name h. bound-kept old new g name (good.bound name (subst (λ (fs : List TypedFunction). Contains (function_names fs) name) g.functions h));
+  outer = g.opened ∙ good.outer;
+}
 
 append-one : {A : Type 0} (xs : List A) (y : A) (zs : List A) → (xs ++ y ∷ []) ++ zs ≡ xs ++ y ∷ zs
 append-one [] y zs = refl
@@ -113,17 +144,34 @@ result-more-layer a b (CType-F.Struct number) more h =
     grind (arith, common_steps)
 result-more-layer a b (CType-F.Pointer q to) more h = h
 
-entry-result-at : (name : Identifier) (k : ValueKind) (env : Environment) → IsWellFormed env
-    → Passing (Grown (AnyIn {A = Unit {0}}) env) (elim k [
+entry-result-at : (name : Identifier) (k : ValueKind) (env : Environment)
+    → Passing (Stays (AnyIn {A = Unit {0}}) env) (elim k [
       | kind.Void ↦ if is_entry name then Breaks NoEntry name.place else Passes tt env
       | kind.Integer t ↦ Passes tt env
       | kind.Pointer ↦ Passes tt env
       | kind.Struct number ↦ Passes tt env
     ])
-entry-result-at name kind.Void env well = passing-if (Grown AnyIn env) (is_entry name) (Breaks NoEntry name.place) (Passes tt env) (λ e. tt) (λ e. (extends-refl env, well, tt))
-entry-result-at name (kind.Integer t) env well = (extends-refl env, well, tt)
-entry-result-at name kind.Pointer env well = (extends-refl env, well, tt)
-entry-result-at name (kind.Struct number) env well = (extends-refl env, well, tt)
+entry-result-at name kind.Void env = passing-if (Stays AnyIn env) (is_entry name) (Breaks NoEntry name.place) (Passes tt env) (λ e. tt) (λ e. (refl, tt))
+entry-result-at name (kind.Integer t) env = (refl, tt)
+entry-result-at name kind.Pointer env = (refl, tt)
+entry-result-at name (kind.Struct number) env = (refl, tt)
+
+abbrev FreeIn : List ℕ → Environment → Unit {0} → Type 0
+FreeIn name env u = is_free env name ≡ true
+
+free-stays : (name : Identifier) (env : Environment) → Passing (Stays (FreeIn name.text) env) (free_name name env)
+free-stays name env = passing-if (Stays (FreeIn name.text) env) (is_free env name.text) (Passes tt env) (Breaks Twice name.place) (λ e. (refl, e)) (λ e. tt)
+
+-- a name that is free between external declarations is no function's
+no-some : (o : Option ℕ) → not (is_some o) ≡ true → o ≡ None
+no-some None h = refl
+no-some (Some n) h = absurd (cc)
+
+free-of : (env : Environment) (name : List ℕ) → IsGood env → is_free env name ≡ true → Contains (function_names env.functions) name → ⊥
+free-of env name good free c =
+    let here : found (drop (before env.names.opened) env.names.bound) name ≡ None = no-some (found (drop (before env.names.opened) env.names.bound) name) free in
+    let all : found env.names.bound name ≡ None = subst (λ (opened : List ℕ). found (drop (before opened) env.names.bound) name ≡ None) good.outer here in
+    unfound name env.names.bound all (good.bound name c)
 
 -- ---- a function
 
@@ -145,6 +193,22 @@ module _ (name : Identifier) (env : Environment) where
     enumerators = λ k w e. begun-enumerator well k w (pushed env.entities (entity.Function (length env.functions)) k (entity.Enumerator w) e);
   }
 
+  begun-extends : Extends env (begun name env)
+  begun-extends = record {
+    structs = grows-refl env.structs;
+    objects = grows-refl env.objects;
+    functions = refl;
+    typedefs = grows-refl env.typedefs;
+    entities = (entity.Function (length env.functions) ∷ [], refl);
+    names = (record { name = name.text; number = length env.entities } ∷ [], refl);
+    opened = refl;
+  }
+
+  begun-bound : Contains (names_bound (begun name env).names.bound) name.text
+  begun-bound =
+      subst (λ (names : List (List ℕ)). Contains names name.text) (sym (map-append (λ (b : Bound). b.name) env.names.bound (record { name = name.text; number = length env.entities } ∷ [])))
+      (Contains-push (names_bound env.names.bound) name.text)
+
 abbrev WholeIn : Body → Environment → Whole → Type 0
 WholeIn body env whole = HeadIn env whole.head × BlockIn body env whole.body
 
@@ -157,6 +221,7 @@ whole-keeps f body few p h = λ env well.
     (λ block last j u b. (extends-refl last, u, (parameters-kept new.objects last.objects j.objects head.parameters r, b))))
 
 module _ (name : Identifier) (result : CType) (old : Environment) (good : IsGood old) (is : ResultIn old result) (body : Body) (same : body.result ≡ result)
+    (is-named : is_name name.text ≡ true) (fresh : Contains (function_names old.functions) name.text → ⊥) (here : Contains (names_bound old.names.bound) name.text)
     (whole : Whole) (new : Environment) (g : Extends old new) (well : IsWellFormed new) (r : WholeIn body new whole) where
   abbrev f : TypedFunction
   f = record { name = name.text; place = name.place; result = result; params = whole.head.parameters; body = whole.body }
@@ -173,6 +238,19 @@ module _ (name : Identifier) (result : CType) (old : Environment) (good : IsGood
         (record { structs = gs; objects = go; functions = grows-refl new.functions }, sym same);
   }
 
+  kept : IsGood new
+  kept = good-kept old new g well good
+
+  names-more : function_names (new.functions ++ f ∷ []) ≡ function_names new.functions ++ name.text ∷ []
+  names-more = map-append (λ (x : TypedFunction). x.name) new.functions (f ∷ [])
+
+  bound-by : (n : List ℕ) → Contains (function_names new.functions) n ⊎ (name.text ≡ n) → Contains (names_bound new.names.bound) n
+  bound-by n (inl before) = kept.bound n before
+  bound-by n (inr equal) = subst (λ (m : List ℕ). Contains (names_bound new.names.bound) m) equal (bound-kept old new g name.text here)
+
+  still-fresh : Contains (function_names new.functions) name.text → ⊥
+  still-fresh = subst (λ (fs : List TypedFunction). Contains (function_names fs) name.text → ⊥) (sym g.functions) fresh
+
   function-good : IsGood (with_function name result whole new)
   function-good = record {
     well = record {
@@ -186,27 +264,32 @@ module _ (name : Identifier) (result : CType) (old : Environment) (good : IsGood
       few = well.few;
       enumerators = well.enumerators;
     };
-    functions = λ structs objects gs go. functions-pushed structs objects [] new.functions f (functions-kept old new g good.functions structs objects gs go) (function-is structs objects gs go);
+    functions = λ structs objects gs go. functions-pushed structs objects [] new.functions f (kept.functions structs objects gs go) (function-is structs objects gs go);
+    named = subst AreNames (sym names-more) (names-pushed (function_names new.functions) name.text kept.named is-named still-fresh);
+    bound = λ n c. bound-by n (Contains-push_cases (function_names new.functions) name.text n (subst (λ (names : List (List ℕ)). Contains names n) names-more c));
+    outer = kept.outer;
   }
 
-rest-passing : (bound : Option ℕ) (f : Function) (result : CType) (ports : Ports) (env : Environment) → FewWhere bound → are_spelled_parameters f.parameters ≡ true → is_spelled_block f.body ≡ true → IsGood env → ResultIn env result
+rest-passing : (bound : Option ℕ) (f : Function) (result : CType) (ports : Ports) (env : Environment) → FewWhere bound → are_spelled_parameters f.parameters ≡ true → is_spelled_block f.body ≡ true → is_name f.name.text ≡ true
+    → IsGood env → ResultIn env result → (Contains (function_names env.functions) f.name.text → ⊥) → Contains (names_bound env.names.bound) f.name.text
     → Passing GoodAfter (function_rest bound f result ports env)
-rest-passing bound f result ports env few p h good is =
+rest-passing bound f result ports env few p h named good is fresh here =
     let body = body_of bound f result env in
     passing-after (Grown (WholeIn body) env) GoodAfter (scoped_whole f body env) (λ whole env. Passes (ports_where (is_entry f.name) whole.head.ports ports) (with_function f.name result whole env))
     (scoped-keeps (WholeIn body) (whole_walk f body) (λ env a r. r) (whole-keeps f body few p h) env good.well)
-    (λ whole new r. function-good f.name result env good is body refl whole new r.0 r.1 r.2)
+    (λ whole new r. function-good f.name result env good is body refl named fresh here whole new r.0 r.1 r.2)
 
 pub function-passing : (bound : Option ℕ) (f : Function) (ports : Ports) (env : Environment) → FewWhere bound → is_spelled_function f ≡ true → IsGood env → Passing GoodAfter (function_walk bound f ports env)
 function-passing bound f ports env few h good =
-    let a = both (are_spelled_specs f.specs && are_spelled_parameters f.parameters) (is_spelled_block f.body) h in
-    let b = both (are_spelled_specs f.specs) (are_spelled_parameters f.parameters) a.0 in
+    let n = both (is_name f.name.text && are_spelled_specs f.specs && are_spelled_parameters f.parameters) (is_spelled_block f.body) h in
+    let a = both (is_name f.name.text && are_spelled_specs f.specs) (are_spelled_parameters f.parameters) n.0 in
+    let b = both (is_name f.name.text) (are_spelled_specs f.specs) a.0 in
     passing-after (Grown ResultIn env) GoodAfter (result_type f.specs env)
-    (λ result env. after (free_name f.name env) (λ _ env. after (entry_result f.name result env) (λ _ env. function_rest bound f result ports (begun f.name env)))) (result-keeps f.specs b.0 env good.well)
-    (λ result one r. passing-after (Grown AnyIn one) GoodAfter (free_name f.name one) (λ _ env. after (entry_result f.name result env) (λ _ env. function_rest bound f result ports (begun f.name env)))
-    (free-passing f.name one r.1)
-    (λ u two s. passing-after (Grown AnyIn two) GoodAfter (entry_result f.name result two) (λ _ env. function_rest bound f result ports (begun f.name env)) (entry-result-at f.name (kind_of result) two s.1)
-    (λ v three t.
-    let kept = functions-kept two three t.0 (functions-kept one two s.0 (functions-kept env one r.0 good.functions)) in
-    rest-passing bound f result ports (begun f.name three) few b.1 a.1 (record { well = begun-well f.name three t.1; functions = λ structs objects gs go. kept structs objects gs go })
-    (result-kept two three t.0 s.1 result (result-kept one two s.0 r.1 result r.2)))))
+    (λ result env. after (free_name f.name env) (λ _ env. after (entry_result f.name result env) (λ _ env. function_rest bound f result ports (begun f.name env)))) (result-keeps f.specs b.1 env good.well)
+    (λ result one r.
+    let still = good-kept env one r.0 r.1 good in
+    stays-after (FreeIn f.name.text) GoodAfter one (free_name f.name one) (λ _ env. after (entry_result f.name result env) (λ _ env. function_rest bound f result ports (begun f.name env)))
+    (free-stays f.name one)
+    (λ u free. stays-after AnyIn GoodAfter one (entry_result f.name result one) (λ _ env. function_rest bound f result ports (begun f.name env)) (entry-result-at f.name (kind_of result) one)
+    (λ v t. rest-passing bound f result ports (begun f.name one) few a.1 n.1 b.0 (good-kept one (begun f.name one) (begun-extends f.name one) (begun-well f.name one r.1) still) r.2
+    (free-of one f.name.text still free) (begun-bound f.name one))))

@@ -1,5 +1,6 @@
--- Functions and programs as a text spells them, and the rules of typed programs but those of ports, of names, of the counters of loops and of jumps.
+-- Functions and programs as a text spells them, and the rules of typed programs but those of ports, of the counters of loops and of jumps.
 use Rattle.std.specs.Prelude.{◌≡◌, ◌≤◌, ◌&&◌, ◌++◌, Bool, true, Some, List, [], ◌∷◌, map, length, slice_get}
+use Rattle.c_tree.specs.Names.{is_name}
 use Rattle.c_tree.specs.declared.programs.Parameter.{Parameter}
 use Rattle.c_tree.specs.declared.programs.Parameters.{Parameters}
 use Rattle.c_tree.specs.declared.programs.Parameters.TheVariants as parameters
@@ -14,7 +15,7 @@ use Rattle.c_meaning.specs.declared.typed.TypedParts.{TypedParts}
 use Rattle.c_meaning.specs.Types.{struct_cells, shape_of, struct_shapes}
 use Rattle.c_meaning.specs.TypeRules.{Scope}
 use Rattle.c_meaning.specs.SizeFolds.{program_size, saturated}
-use Rattle.c_meaning.specs.StatementRules.{StructsFit, ObjectsFit, AreParameters, is_result, cells_in, most_cells}
+use Rattle.c_meaning.specs.StatementRules.{AreNames, StructsFit, ObjectsFit, AreParameters, is_result, cells_in, most_cells}
 use Rattle.c_meaning.specs.Uses.{taken_by}
 use Rattle.c_typing.specs.declared.environment.Environment.{Environment}
 use Rattle.typing_laws.specs.Scopes.{Grows}
@@ -34,7 +35,7 @@ are_spelled_parameters (parameters.Void place) = true
 are_spelled_parameters (parameters.List list) = every (map is_spelled_parameter list)
 
 abbrev pub is_spelled_function : Function → Bool
-is_spelled_function f = are_spelled_specs f.specs && are_spelled_parameters f.parameters && is_spelled_block f.body
+is_spelled_function f = is_name f.name.text && are_spelled_specs f.specs && are_spelled_parameters f.parameters && is_spelled_block f.body
 
 abbrev pub is_spelled_external : ExternalDeclaration → Bool
 is_spelled_external (external.Typedef place specs name dimensions) = are_spelled_specs specs && every (map is_spelled_dimension dimensions)
@@ -68,6 +69,7 @@ pub record IsTypedBut (program : TypedParts) : Type 0 where
   pub objects : ObjectsFit program.structs program.objects
   pub functions : UncountedFunctions program.structs program.objects [] program.functions
   pub main : (f : TypedFunction) × (slice_get program.functions program.main_function ≡ Some f) × (shape_of (struct_shapes program.structs) f.result ≡ Some program.result)
+  pub regions : AreNames (map (λ f. f.name) program.functions)
   pub cells : program.cells ≡ cells_in program.objects
   pub few : program.cells ≤ most_cells
   pub visits : program.visits ≡ saturated (program_size program).visits
