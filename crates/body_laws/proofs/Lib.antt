@@ -12,3 +12,5 @@ pub mod Selections
 pub mod Blocks
 -- statements and blocks, by induction over their trees
 pub mod Trees
+-- jumps of statements
+pub mod Jumps

@@ -1,4 +1,4 @@
--- Functions (C11 6.9.1): where their typing passes, they keep the rules of typed programs but those of counters and jumps.
+-- Functions (C11 6.9.1): where their typing passes, they keep the rules of typed programs but those of counters.
 use Rattle.std.proofs.Common.{◌≡◌, ◌⊎◌, inl, inr, ◌≤◌, ◌<◌, ◌&&◌, ◌++◌, ℕ, Bool, true, false, if◌then◌else◌, Option, None, Some, List, [], ◌∷◌, length, slice_get, ap, sym, subst, ◌∙◌, refl, arith, not, is_some, map, drop, Contains}
 use Rattle.std.proofs.lemmas.Grind.{common_steps}
 use Rattle.std.proofs.lemmas.List.Elements.{Contains-append_left, Contains-push, Contains-push_cases}
@@ -16,14 +16,15 @@ use Rattle.c_meaning.specs.declared.types.ValueKind.TheVariants as kind
 use Rattle.c_meaning.specs.declared.types.Object.{Object}
 use Rattle.c_meaning.specs.declared.types.StructType.{StructType}
 use Rattle.c_meaning.specs.declared.programs.TypedFunction.{TypedFunction}
+use Rattle.c_meaning.specs.declared.statements.TypedBlock.{TypedBlock}
 use Rattle.c_meaning.specs.Types.{kind_of}
-use Rattle.c_meaning.specs.StatementRules.{AreNames, is_result, layer_is_result}
+use Rattle.c_meaning.specs.StatementRules.{Jumps, jumps_of, no_jumps, AreNames, is_result, layer_is_result}
 use Rattle.c_meaning.specs.Uses.{taken_by}
 use Rattle.c_conversions.specs.declared.fault.TypeKind.TheVariants.{Mismatch, NoEntry, Twice}
 use Rattle.c_scopes.specs.Scopes.{Bound, found, before}
 use Rattle.c_typing.specs.declared.environment.Entity.TheVariants as entity
 use Rattle.c_typing.specs.declared.environment.Environment.{Environment}
-use Rattle.c_typing.specs.Walks.{Breaks, Passes, after}
+use Rattle.c_typing.specs.Walks.{Checked, Breaks, Passes, after}
 use Rattle.c_typing.specs.Specifiers.{is_free}
 use Rattle.c_expressions.specs.Typing.{types_specs}
 use Rattle.c_objects.specs.Objects.{free_name}
@@ -50,6 +51,8 @@ use Rattle.statement_laws.proofs.Scoping.{scoped-keeps}
 use Rattle.body_laws.specs.Statements.{is_spelled_block, BlockIn}
 use Rattle.body_laws.proofs.Bounds.{FewWhere}
 use Rattle.body_laws.proofs.Trees.{block-typed}
+use Rattle.body_laws.proofs.Jumps.{block-jumps-are}
+use Rattle.body_laws.specs.Jumping.{JumpsAre}
 use Rattle.program_laws.specs.Programs.{are_spelled_parameters, is_spelled_function, IsUncountedFunction, UncountedFunctions, FunctionsIn}
 use Rattle.program_laws.proofs.Parameters.{HeadIn, parameters-kept, head-keeps}
 
@@ -210,15 +213,32 @@ module _ (name : Identifier) (env : Environment) where
       (Contains-push (names_bound env.names.bound) name.text)
 
 abbrev WholeIn : Body → Environment → Whole → Type 0
-WholeIn body env whole = HeadIn env whole.head × BlockIn body env whole.body
+WholeIn body env whole = HeadIn env whole.head × BlockIn body env whole.body × JumpsAre nothing_around (jumps_of whole.body)
+
+-- what stays in the function
+stays-false : (b : Bool) → (b ≡ true → false ≡ true) → b ≡ false
+stays-false true h = absurd (cc (h refl))
+stays-false false h = refl
+
+none-leave : (j : Jumps) → JumpsAre nothing_around j → j ≡ no_jumps
+none-leave j h =
+    ap (λ (b : Bool). record { breaks = b; continues = j.continues }) (stays-false j.breaks h.0) ∙ ap (λ (b : Bool). record { breaks = false; continues = b }) (stays-false j.continues h.1)
+
+grown-with : {A : Type 0} (Rule : Environment → A → Type 0) (P : A → Type 0) (env : Environment) (c : Checked A) → Passing (Grown Rule env) c → Passing (λ a e. P a) c → Passing (Grown (λ env a. Rule env a × P a) env) c
+grown-with Rule P env (Breaks kind place) h k = tt
+grown-with Rule P env (Passes a new) h k = (h.0, h.1, (h.2, k))
+
+abbrev BlockJumpsIn : Body → Environment → TypedBlock → Type 0
+BlockJumpsIn body env b = BlockIn body env b × JumpsAre nothing_around (jumps_of b)
 
 whole-keeps : (f : Function) (body : Body) → FewWhere body.bound → are_spelled_parameters f.parameters ≡ true → is_spelled_block f.body ≡ true → Keeps (WholeIn body) (whole_walk f body)
 whole-keeps f body few p h = λ env well.
     grown-after HeadIn (WholeIn body) env (head_of (is_entry f.name) f.parameters env)
     (λ head env. after (types_block body f.body nothing_around env) (λ block env. Passes (record { head = head; body = block }) env)) (head-keeps (is_entry f.name) f.parameters p env well)
-    (λ head new g w r. grown-after (BlockIn body) (WholeIn body) new (types_block body f.body nothing_around new) (λ block env. Passes (record { head = head; body = block }) env)
-    (block-typed body few f.body h nothing_around new w)
-    (λ block last j u b. (extends-refl last, u, (parameters-kept new.objects last.objects j.objects head.parameters r, b))))
+    (λ head new g w r. grown-after (BlockJumpsIn body) (WholeIn body) new (types_block body f.body nothing_around new) (λ block env. Passes (record { head = head; body = block }) env)
+    (grown-with (BlockIn body) (λ b. JumpsAre nothing_around (jumps_of b)) new (types_block body f.body nothing_around new) (block-typed body few f.body h nothing_around new w)
+    (block-jumps-are body f.body nothing_around new))
+    (λ block last j u b. (extends-refl last, u, (parameters-kept new.objects last.objects j.objects head.parameters r, b.0, b.1))))
 
 module _ (name : Identifier) (result : CType) (old : Environment) (good : IsGood old) (is : ResultIn old result) (body : Body) (same : body.result ≡ result)
     (is-named : is_name name.text ≡ true) (fresh : Contains (function_names old.functions) name.text → ⊥) (here : Contains (names_bound old.names.bound) name.text)
@@ -236,6 +256,7 @@ module _ (name : Identifier) (result : CType) (old : Environment) (good : IsGood
     params = parameters-kept new.objects objects go whole.head.parameters r.0;
     body = r.1 (record { scope = record { structs = structs; objects = objects; functions = new.functions }; result = result; taken = taken_by whole.body })
         (record { structs = gs; objects = go; functions = grows-refl new.functions }, sym same);
+    jumps = none-leave (jumps_of whole.body) r.2;
   }
 
   kept : IsGood new

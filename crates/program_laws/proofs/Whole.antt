@@ -1,5 +1,5 @@
--- Programs (C11 6.9): where the typing of a program passes, its parts keep the rules of typed programs but those of ports, of the counters of loops
--- and of jumps.
+-- Programs (C11 6.9): where the typing of a program passes, its parts keep the rules of typed programs but those of ports and of the counters of
+-- loops.
 use Rattle.std.proofs.Common.{◌≡◌, ◌&&◌, ℕ, suc, nat_le, Bool, true, false, if◌then◌else◌, Option, None, Some, Result, Ok, Err, List, [], ◌∷◌, map, length, slice_get, subst, refl, arith}
 use Rattle.hy_bits.specs.declared.shape.Port.{Port}
 use Rattle.hy_bits.specs.declared.shape.Shape.{Shape}
@@ -122,7 +122,7 @@ finished-by end (Breaks kind place) parts good h = absurd (cc)
 finished-by end (Passes ports env) parts good h = entry-by env good end env.main_function ports parts h
 
 -- where a program that is spelled is typed, with a few turns for loops that have no bound of their own, its parts keep the rules of typed programs but
--- those of ports, of counters and of jumps
+-- those of ports and of counters
 pub program-typed : (program : ProgramTree) (bound : Option ℕ) (parts : TypedParts) → is_spelled_program program ≡ true → FewWhere bound → typing_of program bound ≡ Ok parts → IsTypedBut parts
 program-typed program bound parts h few typed =
     finished-by program.end (along (map (item_walk bound) program.items) None nothing_declared) parts (items-passing bound program.items None nothing_declared few h nothing-good) typed

@@ -1,4 +1,4 @@
--- Functions and programs as a text spells them, and the rules of typed programs but those of ports, of the counters of loops and of jumps.
+-- Functions and programs as a text spells them, and the rules of typed programs but those of ports and of the counters of loops.
 use Rattle.std.specs.Prelude.{◌≡◌, ◌≤◌, ◌&&◌, ◌++◌, Bool, true, Some, List, [], ◌∷◌, map, length, slice_get}
 use Rattle.c_tree.specs.Names.{is_name}
 use Rattle.c_tree.specs.declared.programs.Parameter.{Parameter}
@@ -15,7 +15,7 @@ use Rattle.c_meaning.specs.declared.typed.TypedParts.{TypedParts}
 use Rattle.c_meaning.specs.Types.{struct_cells, shape_of, struct_shapes}
 use Rattle.c_meaning.specs.TypeRules.{Scope}
 use Rattle.c_meaning.specs.SizeFolds.{program_size, saturated}
-use Rattle.c_meaning.specs.StatementRules.{AreNames, StructsFit, ObjectsFit, AreParameters, is_result, cells_in, most_cells}
+use Rattle.c_meaning.specs.StatementRules.{jumps_of, no_jumps, AreNames, StructsFit, ObjectsFit, AreParameters, is_result, cells_in, most_cells}
 use Rattle.c_meaning.specs.Uses.{taken_by}
 use Rattle.c_typing.specs.declared.environment.Environment.{Environment}
 use Rattle.typing_laws.specs.Scopes.{Grows}
@@ -52,6 +52,7 @@ pub record IsUncountedFunction (scope : Scope) (f : TypedFunction) : Type 0 wher
   pub result : is_result (length scope.structs) f.result ≡ true
   pub params : AreParameters scope.objects f.params
   pub body : IsUncountedBlock (record { scope = scope; result = f.result; taken = taken_by f.body }) f.body
+  pub jumps : jumps_of f.body ≡ no_jumps
 
 abbrev pub UncountedFunctions : List StructType → List Object → List TypedFunction → List TypedFunction → Type 0
 UncountedFunctions structs objects before [] = Unit {0}
