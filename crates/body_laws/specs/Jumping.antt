@@ -1,5 +1,5 @@
 -- Jumps that leave a statement, by what stands around it (C11 6.8.6.2, 6.8.6.3).
-use Rattle.std.specs.Prelude.{◌≡◌, true, List, map}
+use Rattle.std.specs.Prelude.{◌≡◌, true}
 use Rattle.c_meaning.specs.declared.statements.TypedStatement.{TypedStatement}
 use Rattle.c_meaning.specs.declared.statements.TypedSelection.{TypedSelection}
 use Rattle.c_meaning.specs.declared.statements.TypedIteration.{TypedIteration}

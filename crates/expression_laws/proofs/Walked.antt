@@ -1,5 +1,5 @@
 -- The productions of expressions on walks of their parts: where each part keeps what is declared and passes with what is typed, the whole does.
-use Rattle.std.proofs.Common.{Option, List, [], ◌∷◌, map, subst, refl, arith}
+use Rattle.std.proofs.Common.{Option, List, [], ◌∷◌, map, subst, arith}
 use Rattle.hy_bits.specs.Scalar.{scalar_width}
 use Rattle.hy_bits.specs.Words.{IsWord}
 use Rattle.hy_bits.specs.declared.scalar.Scalar.TheVariants.{S32}

@@ -1,5 +1,5 @@
 -- What is typed in an environment is typed in one with more declared.
-use Rattle.std.proofs.Common.{◌≡◌, ℕ, ◌≤◌, ◌+◌, ◌&&◌, nat_le, nat_lt, ◌<◌, Bool, true, List, [], ◌∷◌, ◌++◌, length, ap, sym, subst, ◌∙◌, refl, arith}
+use Rattle.std.proofs.Common.{◌≡◌, ℕ, ◌≤◌, ◌&&◌, nat_le, nat_lt, ◌<◌, Bool, true, List, [], ◌∷◌, ◌++◌, length, ap, sym, subst, ◌∙◌, refl, arith}
 use Rattle.std.proofs.lemmas.Grind.{common_steps}
 use Rattle.c_meaning.specs.declared.types.CType as C
 use Rattle.c_meaning.specs.declared.types.CType.TheOpen.{CType-F}

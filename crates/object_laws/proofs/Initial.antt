@@ -1,5 +1,5 @@
 -- Whole initializers: their values, in the order of the text, and the parts that they fill.
-use Rattle.std.proofs.Common.{◌≡◌, ℕ, ◌+◌, ◌++◌, ◌&&◌, Bool, true, false, List, [], ◌∷◌, map, length, ap, sym, subst, ◌∙◌, refl, arith}
+use Rattle.std.proofs.Common.{◌≡◌, ℕ, ◌++◌, ◌&&◌, Bool, true, false, List, [], ◌∷◌, map, length, ap, sym, subst, ◌∙◌, refl, arith}
 use Rattle.hy_bits.specs.declared.scalar.Scalar.{Scalar}
 use Rattle.c_tree.specs.Expressions.{has_some}
 use Rattle.c_tree.specs.declared.token.Place.{Place}

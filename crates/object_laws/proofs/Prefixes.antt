@@ -1,5 +1,5 @@
 -- The integers in the cells of arrays and structs, part by part.
-use Rattle.std.proofs.Common.{◌≡◌, ◌≤◌, ◌<◌, ◌+◌, ◌-◌, ℕ, zero, suc, nat_lt, true, Option, None, Some, option_map, List, [], ◌∷◌, ◌++◌, take, length, slice_get, get_or, ap, sym, subst, ◌∙◌, refl, arith}
+use Rattle.std.proofs.Common.{◌≡◌, ◌≤◌, ◌<◌, ◌+◌, ℕ, zero, suc, nat_lt, true, Option, None, Some, option_map, List, [], ◌∷◌, ◌++◌, take, length, slice_get, get_or, ap, sym, subst, ◌∙◌, refl, arith}
 use Rattle.std.proofs.lemmas.List.{length-append, get_or_append_left}
 use Rattle.std.proofs.lemmas.Grind.{common_steps}
 use Rattle.hy_bits.specs.declared.scalar.Scalar.{Scalar}

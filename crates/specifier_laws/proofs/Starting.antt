@@ -1,5 +1,5 @@
 -- The integers in the cells of types that stand, their shapes, and the words that objects begin with, where more is declared.
-use Rattle.std.proofs.Common.{◌≡◌, ◌<◌, ◌≤◌, ◌+◌, ◌++◌, nat_lt, ℕ, zero, suc, true, Bool, Option, None, Some, option_map, List, [], ◌∷◌, length, get_or, ap, sym, subst, ◌∙◌, refl, arith}
+use Rattle.std.proofs.Common.{◌≡◌, ◌<◌, ◌+◌, ◌++◌, nat_lt, ℕ, true, Bool, Option, None, Some, option_map, List, [], ◌∷◌, length, get_or, ap, sym, subst, ◌∙◌, refl, arith}
 use Rattle.std.proofs.lemmas.List.{get_or_append_left, length-append}
 use Rattle.std.proofs.lemmas.Grind.{common_steps}
 use Rattle.hy_bits.specs.declared.scalar.Scalar.{Scalar}
