@@ -37,22 +37,26 @@ pub extends-refl : (env : Environment) → Extends env env
 extends-refl env = record {
   structs = grows-refl env.structs;
   objects = grows-refl env.objects;
-  functions = grows-refl env.functions;
+  functions = refl;
   typedefs = grows-refl env.typedefs;
   entities = grows-refl env.entities;
+  names = grows-refl env.names.bound;
+  opened = refl;
 }
 
 pub extends-trans : (a b c : Environment) → Extends a b → Extends b c → Extends a c
 extends-trans a b c g h = record {
   structs = grows-trans a.structs b.structs c.structs g.structs h.structs;
   objects = grows-trans a.objects b.objects c.objects g.objects h.objects;
-  functions = grows-trans a.functions b.functions c.functions g.functions h.functions;
+  functions = h.functions ∙ g.functions;
   typedefs = grows-trans a.typedefs b.typedefs c.typedefs g.typedefs h.typedefs;
   entities = grows-trans a.entities b.entities c.entities g.entities h.entities;
+  names = grows-trans a.names.bound b.names.bound c.names.bound g.names h.names;
+  opened = h.opened ∙ g.opened;
 }
 
 pub scope-grows : (old new : Environment) → Extends old new → ScopeGrows (scope_of old) (scope_of new)
-scope-grows old new g = record { structs = g.structs; objects = g.objects; functions = g.functions }
+scope-grows old new g = record { structs = g.structs; objects = g.objects; functions = ([], g.functions ∙ none-more old.functions) }
 
 -- ---- names (C11 6.5.1p2, 6.4.4.3p2)
 

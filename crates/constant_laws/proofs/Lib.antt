@@ -1,0 +1,4 @@
+-- operations give words of their types
+pub mod Bounds
+-- constants of typed expressions
+pub mod Typed

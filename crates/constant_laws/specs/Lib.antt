@@ -1,0 +1,2 @@
+-- words of the types of expressions
+pub mod Words

@@ -1,0 +1,2 @@
+-- walks that keep what is declared, and add to it
+pub mod Keeping

@@ -1,0 +1,2 @@
+-- source expressions and specifiers, by induction over their trees
+pub mod Sources

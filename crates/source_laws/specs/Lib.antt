@@ -1,0 +1,2 @@
+-- source trees as the text spells them
+pub mod Spelled

@@ -1,0 +1,2 @@
+-- members, enumerators and counts of elements that are walked
+pub mod Declared

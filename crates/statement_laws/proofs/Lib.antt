@@ -1,0 +1,6 @@
+-- the scopes of blocks
+pub mod Scoping
+-- declarators where more is declared
+pub mod Lasting
+-- statements that are made of parts
+pub mod Nodes
