@@ -103,7 +103,7 @@ module _ (env : Environment) (good : IsGood env) where
   visits-by fault made parts false h = absurd (cc)
 
   shaped-by : (main : ℕ) (ports : List Port) (f : TypedFunction) (o : Option Shape) (parts : TypedParts) → slice_get env.functions main ≡ Some f → shape_of (struct_shapes env.structs) f.result ≡ o
-      → shaped env main ports f o ≡ Ok parts → IsTypedBut parts
+      → shaped f.place env main ports o ≡ Ok parts → IsTypedBut parts
   shaped-by main ports f None parts found is h = absurd (cc)
   shaped-by main ports f (Some result) parts found is h =
       subst IsTypedBut (visits-by _ (sized (unsized env main ports result)) parts (nat_le (sized (unsized env main ports result)).visits most_visits) h) (typed-but main ports f result found is)
