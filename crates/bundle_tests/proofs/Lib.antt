@@ -1,1 +1,4 @@
-mod Samples
+mod BundleLaws
+mod ConjunctionLaws
+mod PassedLaws
+mod SharingsLaws

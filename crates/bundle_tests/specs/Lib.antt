@@ -1,1 +1,4 @@
-pub mod Samples
+pub mod Bundles
+pub mod Conjunction
+pub mod Passed
+pub mod Sharings

@@ -2,4 +2,10 @@
 #![tactic(auto)]
 
 #[cfg(test)]
+mod bundles;
+#[cfg(test)]
 mod conjunction;
+#[cfg(test)]
+mod passed;
+#[cfg(test)]
+mod sharings;
