@@ -1,6 +1,7 @@
-use hy_bits::{Memory, Text};
-use hy_io::{MemFiles, MemSink};
-use hycc_top::{Exec, exec_with, hycc};
+use crate::runs::{Done, command, files};
+use hy_bits::Memory;
+use hy_io::MemSink;
+use hycc_top::{Exec, exec_with};
 use rand_chacha::ChaCha20Rng;
 use rand_core::SeedableRng;
 use std::alloc::{AllocError, Global};
@@ -11,39 +12,6 @@ const SUM: &str =
 
 const RUN: &str =
     "hycc|exec|s|a|b|--seed|0000000000000000000000000000000000000000000000000000000000000000";
-
-/// What a command did: its status and the bytes that the sink then held.
-#[derive(Drop)]
-struct Done {
-    code: u8,
-    taken: Vec<u8>,
-}
-
-/// The files `s`, `a` and `b`, of which the calls with these numbers fail.
-fn files(alloc: Global, source: &str, a: &str, b: &str, fails: &[u64]) -> Result<MemFiles, Memory> {
-    let mut files = Vec::new(alloc);
-    for (name, bytes) in [("s", source), ("a", a), ("b", b)] {
-        files.push((
-            Text::copy_of(alloc, name.as_bytes())?,
-            Vec::from_slice(alloc, bytes.as_bytes())?,
-        ))?;
-    }
-    MemFiles::new(alloc, files, Vec::from_slice(alloc, fails)?)
-}
-
-/// Runs these words, which bars part, over the files.
-fn command(alloc: Global, words: &str, mut files: MemFiles) -> Result<Done, Memory> {
-    let mut owned = Vec::new(alloc);
-    for word in words.split('|') {
-        owned.push(String::from_str(alloc, word)?)?;
-    }
-    let mut sink = MemSink::new(alloc, 4096, 7, Vec::new(alloc))?;
-    let status = hycc(alloc, &owned, &mut files, &mut sink);
-    Ok(Done {
-        code: status.code,
-        taken: Vec::from_slice(alloc, sink.taken())?,
-    })
-}
 
 /// Runs the source on the inputs.
 fn exec(alloc: Global, source: &str, a: &str, b: &str) -> Result<Done, Memory> {

@@ -3,3 +3,9 @@
 
 #[cfg(test)]
 mod exec;
+#[cfg(test)]
+mod plain;
+#[cfg(test)]
+mod plain_rows;
+#[cfg(test)]
+mod runs;

@@ -2,5 +2,4 @@ pub mod Sums
 pub mod Terms
 pub mod Inputs
 pub mod Runs
-pub mod Prints
 pub mod Requests

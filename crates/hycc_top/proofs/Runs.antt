@@ -1,13 +1,14 @@
 -- From what the texts say to what the files hold, and what a run without faults must end with.
 use Rattle.std.proofs.Common.{◌≡◌, ◌≢◌, ℕ, ◌+◌, ◌^◌, ◌≤◌, ◌⊎◌, inl, inr, List, length, take, Option, None, Some, MatchOption, refl, ap, sym, ◌∙◌, subst, arith}
-use Rattle.std.proofs.lemmas.Bool.Decides.{eqb_tells}
 use Rattle.std.proofs.lemmas.List.{take_all, length-take}
 use Rattle.hy_io.specs.Outside.{Store, Rose, Gives}
 use Rattle.hycc_top.specs.declared.outcome.Outcome.{Outcome}
 use Rattle.hycc_top.specs.declared.outcome.Outcome.TheVariants.{Sum as Opened, SourceForm, AForm, BForm}
 use Rattle.hycc_top.specs.Source.{Summed, source_of}
 use Rattle.hycc_top.specs.Lines.{run_line}
-use Rattle.hycc_top.specs.Endings.{SourceSays, InputSays, Holds, IsJob, IsRun, IsSourceFault, IsInputFault, IsEnding, Calm, HasJob}
+use Rattle.hycc_top.specs.Endings.{SourceSays, InputSays, Holds, IsJob, IsRun, IsSourceFault, IsInputFault, IsEnding, HasJob}
+use Rattle.command_io.specs.Ends.{Calm}
+use Rattle.command_io.proofs.Ending.{not_risen}
 use Rattle.hycc_top.specs.Inner.{IsOutcome, IsLineOf}
 
 -- the first bytes of a file, where they are no more than it may have, are the file
@@ -103,10 +104,6 @@ no_input_fault store source a b said x y line job (other, says, inl fault) =
 no_input_fault store source a b said x y line job (other, says, inr fault) =
     fault.2 y (subst (λ s. Holds store b (InputSays s.b y)) (same_said store source said other job.source_says says) job.b_says)
 
--- a calm count hasn't risen
-pub not_risen : (before after : ℕ) → Calm before after → Rose before after → ⊥
-not_risen before after calm rose = omega (arith, calm.same, rose calm.below)
-
 -- a job without a fault of a file ends well
 pub run_of_job : (store : Option Store) (before after : List ℕ → ℕ) (source a b : List ℕ) (code : ℕ) (line : List ℕ) → HasJob store source a b → ((name : List ℕ) → Calm (before name) (after name)) → IsEnding store before after source a b code line → code ≡ 0
 run_of_job None before after source a b code line job calm ending = absurd job
@@ -118,10 +115,12 @@ run_of_job (Some store) before after source a b code line (said, x, y, job) calm
       | inr (inr (inr is)) ↦ absurd (no_input_fault store source a b said x y line job (ending.input_fault is))
     ]
 
--- the sink's status of a line that is that of a job
-pub status_of_job : (code line_code before after : ℕ) → (code ≢ 9 → code ≡ line_code) → (code ≡ 9 → Rose before after) → Calm before after → line_code ≡ 0 → (code ≡ 0) ⊎ (code ≡ 10)
-status_of_job code line_code before after written cut calm is =
-    elim (eqb_tells code 9) [
-      | inl nine ↦ absurd (not_risen before after calm (cut nine.1))
-      | inr other ↦ inl (written other.1 ∙ is)
+-- the statuses of a run are at most 6
+pub few_codes : (store : Option Store) (before after : List ℕ → ℕ) (source a b : List ℕ) (code : ℕ) (line : List ℕ) → IsEnding store before after source a b code line → code ≤ 6
+few_codes store before after source a b code line ending =
+    elim ending.known [
+      | inl is ↦ omega (arith, is)
+      | inr (inl is) ↦ omega (arith, is)
+      | inr (inr (inl is)) ↦ omega (arith, is)
+      | inr (inr (inr is)) ↦ omega (arith, is)
     ]

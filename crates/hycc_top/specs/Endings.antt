@@ -1,9 +1,10 @@
 -- What each status of a run means, with the line that goes with it.
-use Rattle.std.specs.Prelude.{◌≡◌, ℕ, ◌-◌, ◌^◌, ◌<◌, ◌≤◌, ◌⊎◌, List, length, Option, None, Some}
+use Rattle.std.specs.Prelude.{◌≡◌, ℕ, ◌^◌, ◌≤◌, ◌⊎◌, List, length, Option, None, Some}
 use Rattle.hy_io.specs.Outside.{Store, Rose}
 use Rattle.hycc_top.specs.Source.{Summed, source_of, sum_in_c}
 use Rattle.hycc_top.specs.Input.{IsInput}
-use Rattle.hycc_top.specs.Lines.{run_line, file_fault_line, form_line}
+use Rattle.command_io.specs.Lines.{file_fault_line}
+use Rattle.hycc_top.specs.Lines.{run_line, form_line}
 
 -- a source of at most 1 MiB that says this
 pub record SourceSays (said : Summed) (bytes : List ℕ) : Type 0 where
@@ -57,11 +58,6 @@ pub record IsEnding (store : Option Store) (before after : List ℕ → ℕ) (so
   pub file_fault : code ≡ 2 → IsFileFault before after source a b line
   pub source_fault : code ≡ 3 → IsSourceFault store source line
   pub input_fault : code ≡ 6 → IsInputFault store source a b line
-
--- a count below its end that stands still: the device had no fault
-pub record Calm (before after : ℕ) : Type 0 where
-  pub below : before < 2 ^ 64 - 1
-  pub same : after ≡ before
 
 -- the files are told and of their forms
 abbrev pub HasJob : Option Store → List ℕ → List ℕ → List ℕ → Type 0

@@ -1,19 +1,15 @@
 -- What the parts of a run say to one another.
-use Rattle.std.specs.Prelude.{◌≡◌, ℕ, List, ⊤}
+use Rattle.std.specs.Prelude.{◌≡◌, ℕ, List}
 use Rattle.std.specs.String.{string_bytes}
-use Rattle.hycc_top.specs.declared.exec.Stop.{Stop}
-use Rattle.hycc_top.specs.declared.exec.Stop.TheVariants.{Fault, Memory}
+use Rattle.hycc_top.specs.declared.command.Asked.{Asked}
+use Rattle.hycc_top.specs.declared.command.Asked.TheVariants.{Exec, Plain, Nothing}
 use Rattle.hycc_top.specs.declared.outcome.Outcome.{Outcome}
 use Rattle.hycc_top.specs.declared.outcome.Outcome.TheVariants.{Sum as Opened, SourceForm, AForm, BForm}
 use Rattle.hycc_top.specs.declared.source.Sum.{Sum}
 use Rattle.hycc_top.specs.Source.{Summed, sum_in_c}
 use Rattle.hycc_top.specs.Endings.{SourceSays, InputSays}
 use Rattle.hycc_top.specs.Lines.{run_line, form_line}
-
--- of a fault's status and line
-abbrev pub OnLine : Stop → (ℕ → List ℕ → Type 0) → Type 0
-OnLine (Fault line) P = P line.code (string_bytes line.text)
-OnLine Memory P = ⊤
+use Rattle.hycc_top.specs.Request.{IsRequest, IsPlainRequest, NoRequest}
 
 -- what a `Sum` of the program says
 abbrev pub summed : Sum → Summed
@@ -32,3 +28,9 @@ IsLineOf (Opened out) source a b code line = (code ≡ 0) × (line ≡ run_line 
 IsLineOf SourceForm source a b code line = (code ≡ 3) × (line ≡ form_line source)
 IsLineOf AForm source a b code line = (code ≡ 6) × (line ≡ form_line a)
 IsLineOf BForm source a b code line = (code ≡ 6) × (line ≡ form_line b)
+
+-- what the words ask
+abbrev pub IsAsked : List (List ℕ) → Asked → Type 0
+IsAsked words (Exec asked) = IsRequest words (string_bytes asked.job.source) (string_bytes asked.job.a) (string_bytes asked.job.b)
+IsAsked words (Plain job) = IsPlainRequest words (string_bytes job.source) (string_bytes job.a) (string_bytes job.b) job.bound
+IsAsked words Nothing = NoRequest words

@@ -1,45 +1,37 @@
-ghost use Rattle.std.specs.Prelude.{◌≡◌, ◌≢◌, ℕ, ◌<◌, ◌⊎◌, List, map, length, take, IfOk, IsSome, ◌↔◌, MatchOption};
+ghost use Rattle.std.specs.Prelude.{◌≡◌, ℕ, ◌⊎◌, List, Option, map, length, IfOk, IsSome, ◌↔◌, MatchOption, MatchResult};
 ghost use Rattle.std.specs.List.{AllPass};
 ghost use Rattle.hex.specs.Hex.{is_hex_digit};
 ghost use Rattle.std.specs.String.{string_bytes};
-ghost use Rattle.std.specs.Io.KnownBytes.{Appends};
-ghost use Rattle.hy_io.specs.Outside.{Rose};
-ghost use Rattle.hycc_top.specs.Lines.{words_line};
-ghost use Rattle.hycc_top.specs.Endings.{Calm};
-ghost use Rattle.hycc_top.specs.Request.{IsRequest, NoRequest, IsCommandEnding, HasRequestedJob};
+ghost use Rattle.command_io.specs.declared.status.Stop.TheVariants.{Memory as WantOfMemory};
+ghost use Rattle.command_io.specs.Lines.{words_line};
+ghost use Rattle.command_io.specs.Ends.{Calm, Ends};
+ghost use Rattle.hycc_top.specs.Request.{IsRequest, IsPlainRequest, IsCommandEnding, HasRequestedJob, IsStatus};
+ghost use Rattle.hycc_top.specs.Inner.{IsAsked};
 
-use crate::exec::{Exec, Line, Status, exec_with, print};
-use crate::line;
+use crate::exec::{Exec, exec_with};
+use command_io::{Line, Status, Stop, conclude, words_fault};
 use hex::FromHex;
 use hy_bits::Memory;
 use hy_io::{Files, Sink};
+use hy_words::{Request, WordsFault, request};
+use plain_command::{Plain, plain_with};
 use rand_chacha::ChaCha20Rng;
 use rand_core::SeedableRng;
 use std::alloc::Global;
 
-/// Does what the words ask: the program's name, which may be any word, and `exec SRC A B --seed HEX64`.
+/// Does what the words ask: the program's name, which may be any word, and `exec SRC A B --seed HEX64` or `plain SRC A B [--bound N]`.
 pub fn hycc<F: Files, S: Sink>(
     alloc: Global,
     words: &[String],
     files: &mut F,
     sink: &mut S,
 ) -> Status
+    // The line is that of what the words ask, each with its cause; it is printed whole, or up to a fault of the sink.
+    ensures ends { Ends (IsCommandEnding (F.store files.old) (F.failed_reads files.old) (F.failed_reads files.new) (map string_bytes words.now))
+        (S.taken sink.old) (S.taken sink.new) (S.faults sink.old) (S.faults sink.new) result.code }
+
     // There is no other status.
-    ensures statuses { (result.code ≡ 0) ⊎ (result.code ≡ 1) ⊎ (result.code ≡ 2) ⊎ (result.code ≡ 3) ⊎ (result.code ≡ 6) ⊎ (result.code ≡ 9) ⊎ (result.code ≡ 10) }
-
-    // With memory and without a fault of the sink the line of the status is printed whole, and nothing else.
-    ensures line { result.code ≢ 9 → result.code ≢ 10 →
-        (line : List ℕ) × IsCommandEnding (F.store files.old) (F.failed_reads files.old) (F.failed_reads files.new) (map string_bytes words.now) result.code line
-        × Appends (S.taken sink.old) (S.taken sink.new) line }
-
-    // Where the sink failed, some first bytes of the line stand, and not the whole.
-    ensures sink_fault { result.code ≡ 9 →
-        (code : ℕ) × (line : List ℕ) × (count : ℕ) × IsCommandEnding (F.store files.old) (F.failed_reads files.old) (F.failed_reads files.new) (map string_bytes words.now) code line
-        × (count < length line) × Appends (S.taken sink.old) (S.taken sink.new) (take count line)
-        × Rose (S.faults sink.old) (S.faults sink.new) }
-
-    // Where memory ran out, nothing is printed.
-    ensures memory { result.code ≡ 10 → S.taken sink.new ≡ S.taken sink.old }
+    ensures statuses { IsStatus result.code }
 
     // Words that ask for a job of the form end well or want memory, where no device has a fault.
     ensures complete { HasRequestedJob (F.store files.old) (map string_bytes words.now)
@@ -51,29 +43,80 @@ pub fn hycc<F: Files, S: Sink>(
     ensures store { F.store files.new ≡ F.store files.old }
 {
     match requested(alloc, words) {
-        Ok(Some(request)) => exec_with(
+        Ok(Asked::Exec(request)) => exec_with(
             alloc,
             &request.job,
             files,
             sink,
             ChaCha20Rng::from_seed(request.seed),
         ),
-        Ok(None) => refuse(alloc, sink),
+        Ok(Asked::Plain(job)) => plain_with(alloc, &job, files, sink),
+        Ok(Asked::Nothing) => refuse(alloc, sink),
         Err(Memory) => Status { code: 10 },
     }
 }
 
-/// A run with the seed of its dealer.
+/// A run on shares with the seed of its dealer.
 #[derive(Drop)]
-struct Request {
+struct Seeded {
     job: Exec,
     seed: [u8; 32],
 }
 
-/// What the words ask, or none where they are not of the command.
-fn requested(alloc: Global, words: &[String]) -> Result<Option<Request>, Memory>
-    ensures { IfOk result (λ found. MatchOption found (NoRequest (map string_bytes words.now))
-        (λ request. IsRequest (map string_bytes words.now) (string_bytes request.job.source) (string_bytes request.job.a) (string_bytes request.job.b))) }
+/// What the words ask.
+#[derive(Drop)]
+enum Asked {
+    /// A run on shares.
+    Exec(Seeded),
+    /// A run without circuits.
+    Plain(Plain),
+    /// Nothing that is a command.
+    Nothing,
+}
+
+/// What the words ask.
+fn requested(alloc: Global, words: &[String]) -> Result<Asked, Memory>
+    ensures { IfOk result (IsAsked (map string_bytes words.now)) }
+{
+    if let Some(request) = exec_requested(alloc, words)? {
+        return Ok(Asked::Exec(request));
+    }
+    match plain_requested(alloc, words)? {
+        Some(job) => Ok(Asked::Plain(job)),
+        None => Ok(Asked::Nothing),
+    }
+}
+
+/// The run without circuits that the words ask for, or none.
+fn plain_requested(alloc: Global, words: &[String]) -> Result<Option<Plain>, Memory>
+    ensures { IfOk result (λ found. MatchOption found
+        ((source a b : List ℕ) (bound : Option ℕ) → IsPlainRequest (map string_bytes words.now) source a b bound → ⊥)
+        (λ job. IsPlainRequest (map string_bytes words.now) (string_bytes job.source) (string_bytes job.a) (string_bytes job.b) job.bound)) }
+{
+    match request(alloc, words) {
+        Ok(
+            Request::Plain {
+                source,
+                a,
+                b,
+                bound,
+            },
+        ) => Ok(Some(Plain {
+            source,
+            a,
+            b,
+            bound,
+        })),
+        Ok(_) | Err(WordsFault::NoRequest) => Ok(None),
+        Err(WordsFault::Memory) => Err(Memory),
+    }
+}
+
+/// The run on shares that the words ask for, with the seed of its dealer, or none.
+fn exec_requested(alloc: Global, words: &[String]) -> Result<Option<Seeded>, Memory>
+    ensures { IfOk result (λ found. MatchOption found
+        ((source a b : List ℕ) → IsRequest (map string_bytes words.now) source a b → ⊥)
+        (λ asked. IsRequest (map string_bytes words.now) (string_bytes asked.job.source) (string_bytes asked.job.a) (string_bytes asked.job.b))) }
 {
     let [_, command, source, a, b, option, seed] = words else {
         return Ok(None);
@@ -84,7 +127,7 @@ fn requested(alloc: Global, words: &[String]) -> Result<Option<Request>, Memory>
     let Some(seed) = seed_of(seed.as_str()) else {
         return Ok(None);
     };
-    Ok(Some(Request {
+    Ok(Some(Seeded {
         job: Exec {
             source: String::from_str(alloc, source.as_str())?,
             a: String::from_str(alloc, a.as_str())?,
@@ -101,15 +144,20 @@ fn seed_of(word: &str) -> Option<[u8; 32]>
     <[u8; 32] as FromHex>::from_hex(word).ok()
 }
 
-/// Prints that the words are not of the command.
+/// Prints that the words are not of a command.
 fn refuse<S: Sink>(alloc: Global, sink: &mut S) -> Status
-    ensures statuses { (result.code ≡ 1) ⊎ (result.code ≡ 9) ⊎ (result.code ≡ 10) }
-    ensures line { result.code ≡ 1 → Appends (S.taken sink.old) (S.taken sink.new) words_line }
-    ensures cut { result.code ≡ 9 → (count : ℕ) × (count < length words_line) × Appends (S.taken sink.old) (S.taken sink.new) (take count words_line) × Rose (S.faults sink.old) (S.faults sink.new) }
-    ensures memory { result.code ≡ 10 → S.taken sink.new ≡ S.taken sink.old }
+    ensures { Ends (λ code line. (code ≡ 1) × (line ≡ words_line)) (S.taken sink.old) (S.taken sink.new) (S.faults sink.old) (S.faults sink.new) result.code }
 {
-    match line::words_fault(alloc) {
-        Ok(text) => print(&Line { code: 1, text }, sink),
-        Err(Memory) => Status { code: 10 },
-    }
+    let outcome = refusal(alloc);
+    conclude(outcome, sink)
+}
+
+/// The line of words that are not of a command.
+fn refusal(alloc: Global) -> Result<Line, Stop>
+    ensures { MatchResult result (λ line. (line.code ≡ 1) × (string_bytes line.text ≡ words_line)) (λ stop. stop ≡ WantOfMemory) }
+{
+    Ok(Line {
+        code: 1,
+        text: words_fault(alloc)?,
+    })
 }

@@ -1,14 +1,15 @@
-ghost use Rattle.std.specs.Prelude.{◌≡◌, ◌≢◌, ℕ, ◌-◌, ◌^◌, ◌<◌, ◌≤◌, ◌⊎◌, List, length, take, string_bytes, IfOk, IfErr, MatchResult};
-ghost use Rattle.std.specs.Io.KnownBytes.{Appends, Keeps};
-ghost use Rattle.hy_io.specs.Outside.{Rose, Gives, NoneFell, Same};
-ghost use Rattle.hycc_top.specs.Lines.{file_fault_line};
-ghost use Rattle.hycc_top.specs.Endings.{IsEnding, HasJob, Calm};
-ghost use Rattle.hycc_top.specs.Inner.{IsLineOf, OnLine};
+ghost use Rattle.std.specs.Prelude.{◌≡◌, ℕ, ◌⊎◌, List, string_bytes, IfOk, IfErr, MatchResult};
+ghost use Rattle.hy_io.specs.Outside.{Rose, Gives, NoneFell};
+ghost use Rattle.command_io.specs.Lines.{file_fault_line};
+ghost use Rattle.command_io.specs.Ends.{Calm, Ends, OnLine};
+ghost use Rattle.hycc_top.specs.Endings.{IsEnding, HasJob};
+ghost use Rattle.hycc_top.specs.Inner.{IsLineOf};
 
 use crate::line;
 use crate::outcome::{Outcome, outcome_of};
+use command_io::{Line, Status, Stop, conclude, file_fault};
 use hy_bits::Memory;
-use hy_io::{Failed, FileError, Files, Sink};
+use hy_io::{FileError, Files, Sink};
 use rand_core::Rng;
 use std::alloc::Global;
 
@@ -18,49 +19,6 @@ pub struct Exec {
     pub source: String,
     pub a: String,
     pub b: String,
-}
-
-/// How a command ends: the program's exit status.
-///
-/// | status | meaning |
-/// |---|---|
-/// | 0 | the command's line is printed |
-/// | 1 | the words are not of a command |
-/// | 2 | a file could not be read |
-/// | 3 | the source is longer than 1 MiB or not of its form |
-/// | 6 | an input is longer than 1 MiB or not of its form |
-/// | 9 | the sink failed |
-/// | 10 | memory ran out |
-#[derive(Clone, Copy, Debug, PartialEq, Eq)]
-pub struct Status {
-    pub code: u8,
-}
-
-/// A status with the line that goes with it.
-#[derive(Drop)]
-pub struct Line {
-    pub code: u8,
-    pub text: String,
-}
-
-/// Why a run has no line of its own.
-#[derive(Drop)]
-pub enum Stop {
-    /// A fault, with its line.
-    Fault(Line),
-    /// Memory ran out.
-    Memory,
-}
-
-impl From<Memory> for Stop {
-    ghost use Rattle.std.specs.Prelude.{◌≡◌};
-    ghost use Rattle.hycc_top.specs.declared.exec.Stop.TheVariants.{Memory as WantOfMemory};
-
-    ghost from_gives = { λ _ stop. stop ≡ WantOfMemory };
-
-    fn from(_error: Memory) -> Stop {
-        Stop::Memory
-    }
 }
 
 /// One more than the most bytes that a source or an input may have.
@@ -75,24 +33,9 @@ pub fn exec_with<F: Files, S: Sink, R: Rng + Drop>(
     sink: &mut S,
     mut dealer: R,
 ) -> Status
-    // There is no other status.
-    ensures statuses { (result.code ≡ 0) ⊎ (result.code ≡ 2) ⊎ (result.code ≡ 3) ⊎ (result.code ≡ 6) ⊎ (result.code ≡ 9) ⊎ (result.code ≡ 10) }
-
-    // With memory and without a fault of the sink the line of the status is printed whole, and nothing else.
-    ensures line { result.code ≢ 9 → result.code ≢ 10 →
-        (line : List ℕ) × IsEnding (F.store files.old) (F.failed_reads files.old) (F.failed_reads files.new)
-        (string_bytes job.now.source) (string_bytes job.now.a) (string_bytes job.now.b) result.code line
-        × Appends (S.taken sink.old) (S.taken sink.new) line }
-
-    // Where the sink failed, some first bytes of the line stand, and not the whole.
-    ensures sink_fault { result.code ≡ 9 →
-        (code : ℕ) × (line : List ℕ) × (count : ℕ) × IsEnding (F.store files.old) (F.failed_reads files.old) (F.failed_reads files.new)
-        (string_bytes job.now.source) (string_bytes job.now.a) (string_bytes job.now.b) code line
-        × (count < length line) × Appends (S.taken sink.old) (S.taken sink.new) (take count line)
-        × Rose (S.faults sink.old) (S.faults sink.new) }
-
-    // Where memory ran out, nothing is printed.
-    ensures memory { result.code ≡ 10 → S.taken sink.new ≡ S.taken sink.old }
+    // The line of a run is the sum in C, and each other one has its cause; it is printed whole, or up to a fault of the sink.
+    ensures ends { Ends (IsEnding (F.store files.old) (F.failed_reads files.old) (F.failed_reads files.new) (string_bytes job.now.source) (string_bytes job.now.a) (string_bytes job.now.b))
+        (S.taken sink.old) (S.taken sink.new) (S.faults sink.old) (S.faults sink.new) result.code }
 
     // A job of the form ends well or wants memory, where no device has a fault.
     ensures complete { HasJob (F.store files.old) (string_bytes job.now.source) (string_bytes job.now.a) (string_bytes job.now.b)
@@ -103,11 +46,8 @@ pub fn exec_with<F: Files, S: Sink, R: Rng + Drop>(
     // The files are as before.
     ensures store { F.store files.new ≡ F.store files.old }
 {
-    match run(alloc, job, files, &mut dealer) {
-        Ok(line) => print(&line, sink),
-        Err(Stop::Fault(line)) => print(&line, sink),
-        Err(Stop::Memory) => Status { code: 10 },
-    }
+    let outcome = run(alloc, job, files, &mut dealer);
+    conclude(outcome, sink)
 }
 
 /// The status and the line of a run.
@@ -117,7 +57,7 @@ fn run<F: Files, R: Rng>(
     files: &mut F,
     dealer: &mut R,
 ) -> Result<Line, Stop>
-    ensures line { MatchResult result
+    ensures ending { MatchResult result
         (λ line. IsEnding (F.store files.old) (F.failed_reads files.old) (F.failed_reads files.new) (string_bytes job.now.source) (string_bytes job.now.a) (string_bytes job.now.b) line.code (string_bytes line.text))
         (λ stop. OnLine stop (IsEnding (F.store files.old) (F.failed_reads files.old) (F.failed_reads files.new) (string_bytes job.now.source) (string_bytes job.now.a) (string_bytes job.now.b))) }
     ensures store { F.store files.new ≡ F.store files.old }
@@ -165,25 +105,7 @@ fn read<F: Files>(alloc: Global, files: &mut F, name: &str) -> Result<Vec<u8>, S
         Err(FileError::Memory) => Err(Stop::Memory),
         Err(FileError::Failed) => Err(Stop::Fault(Line {
             code: 2,
-            text: line::file_fault(alloc, name)?,
+            text: file_fault(alloc, name)?,
         })),
     }
-}
-
-/// Writes a line whole, or up to the fault of the sink.
-pub fn print<S: Sink>(line: &Line, sink: &mut S) -> Status
-    requires { line.now.code ≢ 9 }
-    ensures written { result.code ≢ 9 → (result.code ≡ line.now.code) × Appends (S.taken sink.old) (S.taken sink.new) (string_bytes line.now.text) }
-    ensures cut { result.code ≡ 9 → (count : ℕ) × (count < length (string_bytes line.now.text))
-        × Appends (S.taken sink.old) (S.taken sink.new) (take count (string_bytes line.now.text)) × Rose (S.faults sink.old) (S.faults sink.new) }
-{
-    let text = line.text.as_bytes();
-    let mut written = 0;
-    while written < text.len() {
-        match sink.write(&text[written..]) {
-            Ok(count) => written += count,
-            Err(Failed) => return Status { code: 9 },
-        }
-    }
-    Status { code: line.code }
 }

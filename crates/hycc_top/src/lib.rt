@@ -23,5 +23,6 @@ mod shares;
 mod source;
 
 pub use command::hycc;
-pub use exec::{Exec, Status, exec_with};
+pub use command_io::Status;
+pub use exec::{Exec, exec_with};
 pub use source::{Sum, Term};

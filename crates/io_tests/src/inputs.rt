@@ -1,9 +1,3 @@
-ghost use Rattle.std.specs.Prelude.{◌≡◌, [], ◌∷◌, ◌++◌, IfOk, IsTrue};
-ghost use Rattle.hy_bits.specs.Shape.{leaves};
-ghost use Rattle.hy_bits.specs.declared.scalar.Scalar.TheVariants.{S8, U64, B1};
-ghost use Rattle.hy_bits.specs.declared.shape.Field.{out-Field};
-ghost use Rattle.json_values.specs.Text.{has_text_names, HasTextFields};
-
 use crate::rows::{bytes_of, parts};
 use crate::table::{EDGES, FAULTS, PATHS, ROWS};
 use hy_bits::{Field, Inputs, Memory, Port, Role, Scalar, Shape, Text};
@@ -153,35 +147,23 @@ fn a_scalar_holds_its_numbers_to_both_ends(rt: HostRuntime) -> Result<(), Fail> 
     Ok(())
 }
 
-fn field(alloc: Global, name: &str, shape: Shape) -> Result<Field, Memory>
-    ensures leaves { IfOk result (λ field. leaves (out-Field field).shape ≡ leaves shape) }
-    ensures names { IsTrue (has_text_names shape) → IfOk result (λ field. HasTextFields (field ∷ [])) }
-{
+fn field(alloc: Global, name: &str, shape: Shape) -> Result<Field, Memory> {
     let name = Text::copy_of(alloc, name.as_bytes())?;
     Ok(Field { name, shape })
 }
 
 /// A struct with two members.
-fn pair(alloc: Global, first: Field, second: Field) -> Result<Shape, Memory>
-    ensures leaves { IfOk result (λ shape. leaves shape ≡ leaves (out-Field first).shape ++ (leaves (out-Field second).shape ++ [])) }
-    ensures names { HasTextFields (first ∷ []) → HasTextFields (second ∷ []) → IfOk result (λ shape. IsTrue (has_text_names shape)) }
-{
+fn pair(alloc: Global, first: Field, second: Field) -> Result<Shape, Memory> {
     Ok(Shape::Struct(Items::from_vec(vec![in alloc; first, second]?)))
 }
 
 /// An array of two elements.
-fn twice(alloc: Global, element: Shape) -> Result<Shape, Memory>
-    ensures leaves { IfOk result (λ shape. leaves shape ≡ leaves element ++ (leaves element ++ [])) }
-    ensures names { IfOk result (λ shape. has_text_names shape ≡ has_text_names element) }
-{
+fn twice(alloc: Global, element: Shape) -> Result<Shape, Memory> {
     Ok(Shape::Array(2, Boxed::new(alloc, element)?))
 }
 
 /// `struct { int8_t z; struct { uint64_t n[2]; bool b; } a[2]; }`.
-fn nested(alloc: Global) -> Result<Shape, Memory>
-    ensures leaves { IfOk result (λ shape. leaves shape ≡ S8 ∷ U64 ∷ U64 ∷ B1 ∷ U64 ∷ U64 ∷ B1 ∷ []) }
-    ensures names { IfOk result (λ shape. IsTrue (has_text_names shape)) }
-{
+fn nested(alloc: Global) -> Result<Shape, Memory> {
     let numbers = field(alloc, "n", twice(alloc, Shape::Scalar(Scalar::U64))?)?;
     let flag = field(alloc, "b", Shape::Scalar(Scalar::B1))?;
     let number = field(alloc, "z", Shape::Scalar(Scalar::S8))?;

@@ -1,5 +1,6 @@
 mod Extras
 pub mod Fitting
+mod Floats
 mod Induction
 pub mod Laws
 mod Leaves

@@ -1,11 +1,10 @@
 -- The value of a shape and its words, level by level; it is read as these words, where names are distinct.
-use Rattle.std.proofs.Common.{◌≡◌, ℕ, ℤ, pos, negsuc, zero, suc, ◌+◌, ◌<◌, ◌&&◌, ◌||◌, ◌-◌, Ordering, Less, Equal, Greater, String, Global, string_bytes, string_cmp, Bool, true, false, if◌then◌else◌, not, IsTrue, List, [], ◌∷◌, ◌++◌, length, get_or, drop, take, map, replicate, Some, Ok, true≢false, refl, sym, ap, ◌∙◌, subst, append_assoc, append-nil, arith}
+use Rattle.std.proofs.Common.{◌≡◌, ℕ, ℤ, pos, negsuc, zero, suc, ◌+◌, ◌<◌, ◌&&◌, ◌||◌, ◌-◌, Ordering, Less, Equal, Greater, String, Global, string_bytes, string_cmp, Bool, true, false, if◌then◌else◌, not, IsTrue, List, [], ◌∷◌, ◌++◌, length, get_or, drop, map, replicate, Some, Ok, true≢false, refl, sym, ap, ◌∙◌, subst, append_assoc, append-nil, arith}
 use Rattle.std.specs.List.{flat_map, list_all}
 use Rattle.std.specs.Cmp.Lexicographic.{slice_cmp}
 use Rattle.std.specs.BTreeMap.{insert_entry}
 use Rattle.std.specs.Ordering.{nat_cmp, match_ordering}
-use Rattle.std.specs.Str.{is_utf8, bytes_eq}
-use Rattle.std.proofs.Math.Seq.{take-length}
+use Rattle.std.specs.Str.{bytes_eq}
 use Rattle.std.proofs.lemmas.List.{at_drop_more, map_push}
 use Rattle.std.proofs.lemmas.Slice.Eq.{bytes_eq-Decides}
 use Rattle.hy_bits.specs.declared.scalar.Scalar.{Scalar}
@@ -20,7 +19,7 @@ use Rattle.hy_bits.specs.declared.shape.Shape.TheFolds.{fold-roll-Shape, fold-Fi
 use Rattle.hy_bits.specs.Shape.{leaves, AreWordsOf}
 use Rattle.hy_bits.proofs.ShapeLaws.{leaves-Scalar, leaves-Array, leaves-Struct, AreWordsOf-append}
 use Rattle.serde_json.specs.declared.value.Value.{Value}
-use Rattle.serde_json.specs.Data.{Data, number, Members, no_members, member, put}
+use Rattle.serde_json.specs.Data.{Data, Members, no_members, member, put}
 use Rattle.serde_json.specs.Find.{as_integer, of_integer, get_member}
 use Rattle.serde_json.specs.Events.{items_len}
 use Rattle.serde_json.specs.View.{view, items_of, members_view}
@@ -28,7 +27,7 @@ use Rattle.serde_json.proofs.Views.{Entry, get_member-put, get_member-put_other,
 use Rattle.json_values.specs.Walk.{is_among, words_at}
 use Rattle.json_values.specs.Meaning.{number_of, Says, SayItems, SayFields, a_number, an_array, a_struct, all_items, next_item, all_fields, next_field, field_names, HasOnly, HasPort, HasPorts, IsReadInText}
 use Rattle.hy_bits.specs.Ports.{is_of}
-use Rattle.json_values.specs.Text.{Making, Member, BeginsWith, HasTextFields, field_leaves, value_step, member_step, value_made, text_value, scalar_value, items_value, fields_value, making, an_array as made_array, an_object as made_object, has_text_names, text_names_step, text_name_step, are_distinct, has_distinct_names, distinct_names_step, distinct_name_step}
+use Rattle.json_values.specs.Text.{Making, Member, BeginsWith, field_leaves, value_step, member_step, value_made, text_value, scalar_value, items_value, fields_value, making, an_array as made_array, an_object as made_object, are_distinct, has_distinct_names, distinct_names_step, distinct_name_step}
 use Rattle.json_values.proofs.Induction.{EachField, by_shapes}
 use Rattle.json_values.proofs.Laws.{reads, text_from}
 
@@ -51,32 +50,9 @@ value_made-Struct fields words =
     ap (λ shape. value_made shape words) (sym (V.rolls-Struct fields)) ∙ ap (λ made. made words) (fold-roll-Shape (Making Data) Member value_step member_step (Shape-F.Struct fields))
     ∙ ap (λ members. made_object (fields_value members no_members words)) (making-fields fields)
 
-pub has_text_names-Array : (count : ℕ) (element : S.Shape) → has_text_names (V.Array count element) ≡ has_text_names element
-has_text_names-Array count element =
-    ap has_text_names (sym (V.rolls-Array count element)) ∙ fold-roll-Shape Bool Bool text_names_step text_name_step (Shape-F.Array count element)
-
 both : (a b : Bool) → IsTrue (a && b) → IsTrue a × IsTrue b
 both true b all = (refl, all)
 both false b all = absurd (cc)
-
-abbrev text_field : F.Field → Bool
-text_field field = is_utf8 (F.out-Field field).name && has_text_names (F.out-Field field).shape
-
-text_fields-map : (fields : List F.Field) → map (fold-Field Bool Bool text_names_step text_name_step) fields ≡ map text_field fields
-text_fields-map [] = refl
-text_fields-map (field ∷ fields) = rw (fold_out-Field Bool Bool text_names_step text_name_step field, text_fields-map fields) refl
-
-text_fields : (fields : List F.Field) → IsTrue (list_all (λ field. field) (map text_field fields)) → HasTextFields fields
-text_fields [] all = tt
-text_fields (field ∷ fields) all =
-    let first = both (text_field field) (list_all (λ field. field) (map text_field fields)) all in
-    let here = both (is_utf8 (F.out-Field field).name) (has_text_names (F.out-Field field).shape) first.0 in
-    (here.0, here.1, text_fields fields first.1)
-
-pub has_text_names-Struct : (fields : List F.Field) → IsTrue (has_text_names (V.Struct fields)) → HasTextFields fields
-has_text_names-Struct fields all =
-    let here = ap has_text_names (sym (V.rolls-Struct fields)) ∙ fold-roll-Shape Bool Bool text_names_step text_name_step (Shape-F.Struct fields) ∙ ap (list_all (λ field. field)) (text_fields-map fields) in
-    text_fields fields (sym here ∙ all)
 
 has_distinct_names-Array : (count : ℕ) (element : S.Shape) → has_distinct_names (V.Array count element) ≡ has_distinct_names element
 has_distinct_names-Array count element =
@@ -314,14 +290,6 @@ text_reads shape words fit distinct = reads shape (text_value shape words) words
 
 -- ---- steps of the loops
 
-pub begins_rest : (shape : S.Shape) (more : List Scalar) (words : List ℕ) → BeginsWith (leaves shape ++ more) words → BeginsWith more (value_made shape words).1
-begins_rest shape more words begin = (is_made shape more words begin).next
-
-pub begins_first : (scalars more : List Scalar) (words : List ℕ) → BeginsWith (scalars ++ more) words → BeginsWith scalars words
-begins_first [] more words begin = tt
-begins_first (scalar ∷ scalars) more [] begin = absurd begin
-begins_first (scalar ∷ scalars) more (word ∷ words) begin = (begin.0, begins_first scalars more words begin.1)
-
 -- what was made before, and what is made of the words that are left
 abbrev pub items_after : List Data → List Data × List ℕ → List Data × List ℕ
 items_after done made = (done ++ made.0, made.1)
@@ -340,28 +308,9 @@ array_step count i element words rest next done items item less made pushed is =
     step ∙ ap (λ (first : Data × List ℕ). items_after (map view done ++ first.0 ∷ []) (items_value (count - (i + 1)) (value_made element) first.1)) (sym made)
     ∙ ap (λ all. items_after all (items_value (count - (i + 1)) (value_made element) next)) (sym (ap (map view) pushed ∙ map_push view done item))
 
-pub elements_begin : (count i : ℕ) (element : S.Shape) (rest : List ℕ) → i < count → BeginsWith (of_elements (count - i) element) rest
-    → BeginsWith (leaves element) rest × BeginsWith (of_elements (count - (i + 1)) element) (value_made element rest).1
-elements_begin count i element rest less begin =
-    let one : count - i ≡ suc (count - (i + 1)) = omega arith in
-    let here = subst (λ left. BeginsWith (of_elements left element) rest) one begin in
-    (begins_first (leaves element) (of_elements (count - (i + 1)) element) rest here, begins_rest element (of_elements (count - (i + 1)) element) rest here)
-
-pub struct_begins : (fields : List F.Field) (words : List ℕ) → BeginsWith (leaves (V.Struct fields)) words → BeginsWith (field_leaves fields) words
-struct_begins fields words begin = subst (λ scalars. BeginsWith scalars words) (leaves-Struct fields) begin
-
 -- a field and those after it
 pub field_there : (fields : List F.Field) (i : ℕ) (field : F.Field) → i < length fields → field ≡ get_or fields i field → drop i fields ≡ field ∷ drop (i + 1) fields
 field_there fields i field less is = at_drop_more (λ fs. fs) fields i field less ∙ ap (λ f. f ∷ drop (i + 1) fields) (sym is)
-
-pub fields_begin : (here next : List F.Field) (field : F.Field) (rest : List ℕ) → here ≡ field ∷ next → BeginsWith (field_leaves here) rest
-    → BeginsWith (leaves (F.out-Field field).shape) rest × BeginsWith (field_leaves next) (value_made (F.out-Field field).shape rest).1
-fields_begin here next field rest is begin =
-    let begin = subst (λ fields. BeginsWith (field_leaves fields) rest) is begin in
-    (begins_first (leaves (F.out-Field field).shape) (field_leaves next) rest begin, begins_rest (F.out-Field field).shape (field_leaves next) rest begin)
-
-pub fields_named : (here next : List F.Field) (field : F.Field) → here ≡ field ∷ next → HasTextFields here → HasTextFields (field ∷ next)
-fields_named here next field is named = subst HasTextFields is named
 
 pub object_step : (here next : List F.Field) (field : F.Field) (whole : Members × List ℕ) (found members : List Entry) (rest after : List ℕ) (key : String Global) (value : Value) → here ≡ field ∷ next
     → string_bytes key ≡ (F.out-Field field).name → (view value, after) ≡ value_made (F.out-Field field).shape rest → members ≡ insert_entry string_cmp found key value
@@ -372,16 +321,8 @@ object_step here next field whole found members rest after key value is named ma
     ∙ ap (λ name. fields_value (map making next) (put name (view value) (members_view found)) after) (sym named)
     ∙ ap (λ there. fields_value (map making next) there after) (sym (ap members_view put_there ∙ members_view-insert_entry found key value))
 
-scalar_found : (scalar : Scalar) (words : List ℕ) (value : Data) → BeginsWith (scalar ∷ []) words → value ≡ number (of_integer (number_of scalar (get_or words 0 0)))
-    → (value, take (length words - 1) (drop 1 words)) ≡ scalar_value scalar words
-scalar_found scalar [] value begin made = absurd begin
-scalar_found scalar (word ∷ words) value begin made =
-    let one : suc (length words) - 1 ≡ length words = omega arith in
-    ap (λ number. (number, take (suc (length words) - 1) words)) made ∙ ap (λ rest. (number (of_integer (number_of scalar word)), rest)) (ap (λ n. take n words) one ∙ take-length words)
-
-pub scalar_step : (shape : S.Shape) (scalar : Scalar) (words : List ℕ) (value : Data) → shape ≡ V.Scalar scalar → BeginsWith (leaves shape) words → value ≡ number (of_integer (number_of scalar (get_or words 0 0)))
-    → (value, take (length words - 1) (drop 1 words)) ≡ value_made shape words
-scalar_step shape scalar words value is begin made = scalar_found scalar words value (subst (λ scalars. BeginsWith scalars words) (leaves-Scalar scalar) (subst (λ shape. BeginsWith (leaves shape) words) is begin)) made ∙ sym (value_made-Scalar scalar words) ∙ ap (λ shape. value_made shape words) (sym is)
+pub scalar_step : (shape : S.Shape) (scalar : Scalar) (words : List ℕ) → shape ≡ V.Scalar scalar → (made : Data × List ℕ) → made ≡ scalar_value scalar words → made ≡ value_made shape words
+scalar_step shape scalar words is made found = found ∙ sym (value_made-Scalar scalar words) ∙ ap (λ shape. value_made shape words) (sym is)
 
 -- ---- in a text
 

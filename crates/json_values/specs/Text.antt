@@ -1,7 +1,6 @@
 -- The JSON value of a shape and its words.
-use Rattle.std.specs.Prelude.{ℕ, zero, suc, ◌&&◌, List, [], ◌∷◌, Bool, true, not, map, IsTrue}
+use Rattle.std.specs.Prelude.{ℕ, zero, suc, ◌&&◌, List, [], ◌∷◌, Bool, true, not, map}
 use Rattle.std.specs.List.{flat_map, list_all}
-use Rattle.std.specs.Str.{is_utf8}
 use Rattle.hy_bits.specs.declared.scalar.Scalar.{Scalar}
 use Rattle.hy_bits.specs.declared.shape.Shape.{Shape}
 use Rattle.hy_bits.specs.declared.shape.Field as F
@@ -77,18 +76,6 @@ BeginsWith [] words = Unit {0}
 BeginsWith (scalar ∷ scalars) [] = ⊥
 BeginsWith (scalar ∷ scalars) (word ∷ words) = IsWord (scalar_width scalar) word × BeginsWith scalars words
 
-abbrev pub text_names_step : Shape-F Bool Bool → Bool
-text_names_step (Shape-F.Scalar scalar) = true
-text_names_step (Shape-F.Array count element) = element
-text_names_step (Shape-F.Struct fields) = list_all (λ field. field) fields
-
-abbrev pub text_name_step : Field-F Bool Bool → Bool
-text_name_step field = is_utf8 field.name && field.shape
-
--- each field's name is a text, in a struct at any depth
-abbrev pub has_text_names : Shape → Bool
-has_text_names = fold-Shape Bool Bool text_names_step text_name_step
-
 -- no name comes twice
 abbrev pub are_distinct : List (List ℕ) → Bool
 are_distinct [] = true
@@ -107,11 +94,6 @@ abbrev pub has_distinct_names : Shape → Bool
 has_distinct_names = fold-Shape Bool (List ℕ × Bool) distinct_names_step distinct_name_step
 
 -- ---- the fields of one struct
-
--- each field's name is a text, and so are the names in its shape
-abbrev pub HasTextFields : List F.Field → Type 0
-HasTextFields [] = Unit {0}
-HasTextFields (field ∷ fields) = IsTrue (is_utf8 (F.out-Field field).name) × IsTrue (has_text_names (F.out-Field field).shape) × HasTextFields fields
 
 -- the scalars of the fields, in order
 abbrev pub field_leaves : List F.Field → List Scalar

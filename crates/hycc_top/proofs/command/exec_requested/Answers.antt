@@ -3,7 +3,7 @@ use Rattle.std.specs.List.{AllPass}
 use Rattle.std.specs.String.{string_bytes}
 use Rattle.hex.specs.Hex.{is_hex_digit}
 use Rattle.hycc_top.proofs.Requests.{seven, no_seed, request_of}
-use Rattle.hycc_top.proofs.command.requested.Goals as goal
+use Rattle.hycc_top.proofs.command.exec_requested.Goals as goal
 
 pub returns : goal.returns
 returns c =

@@ -1,0 +1,2 @@
+-- what a source spells
+pub mod Front

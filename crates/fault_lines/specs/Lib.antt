@@ -1,0 +1,2 @@
+-- statuses and lines of faults
+pub mod Faults

@@ -1,0 +1,3 @@
+mod Answering
+pub mod Codes
+mod Reading

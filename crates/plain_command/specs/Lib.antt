@@ -1,0 +1,4 @@
+-- the line of a run
+pub mod Lines
+-- how the command ends
+pub mod Endings
