@@ -2,6 +2,7 @@
 
 use crate::plain_rows::{COUNT, ROWS};
 use crate::runs::{command, files};
+use std::alloc::{AllocError, Global};
 use std::test::Fail;
 
 /// The next part of a row, and what follows it.
@@ -59,6 +60,15 @@ fn words_of_plain_that_are_none_are_refused(rt: HostRuntime) -> Result<(), Fail>
     Ok(())
 }
 
+/// So many blanks.
+fn blanks(alloc: Global, count: u32) -> Result<String, AllocError> {
+    let mut text = String::new(alloc);
+    for _ in 0..count {
+        text.push(' ')?;
+    }
+    Ok(text)
+}
+
 #[test]
 fn files_of_plain_that_fail_or_are_too_long_are_named_in_their_order(
     rt: HostRuntime,
@@ -77,33 +87,30 @@ fn files_of_plain_that_fail_or_are_too_long_are_named_in_their_order(
         assert_eq!(rt; done.code, 2);
         assert_eq!(rt; done.taken.as_slice(), line.as_bytes());
     }
-    let source = " ".repeat(alloc, 0x10_0001)?;
-    let input = " ".repeat(alloc, 0x40_0001)?;
     for (source, a, code, line) in [
         (
-            source.as_str(),
-            input.as_str(),
+            0x10_0001,
+            0x40_0001,
             3,
             "{\"fault\":\"TooLong\",\"name\":\"s\"}\n",
         ),
         (
-            &source[1..],
-            input.as_str(),
+            0x10_0000,
+            0x40_0001,
             6,
             "{\"fault\":\"TooLong\",\"name\":\"a\"}\n",
         ),
         (
-            &source[1..],
-            &input[1..],
+            0x10_0000,
+            0x40_0000,
             3,
             "{\"at\":[1,1048577],\"fault\":\"Type.NoEntry\"}\n",
         ),
     ] {
-        let done = command(
-            alloc,
-            "hycc|plain|s|a|b",
-            files(alloc, source, a, "{}", &[])?,
-        )?;
+        let source = blanks(alloc, source)?;
+        let a = blanks(alloc, a)?;
+        let files = files(alloc, source.as_str(), a.as_str(), "{}", &[])?;
+        let done = command(alloc, "hycc|plain|s|a|b", files)?;
         assert_eq!(rt; done.code, code);
         assert_eq!(rt; done.taken.as_slice(), line.as_bytes());
     }
