@@ -1,0 +1,5 @@
+pub mod WordLaws
+pub mod Meaning
+pub mod Nets
+pub mod Rings
+pub mod Sizes
