@@ -1,0 +1,2 @@
+mod NetLaws
+pub mod CircuitLaws
