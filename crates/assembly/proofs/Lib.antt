@@ -1,0 +1,2 @@
+mod DraftLaws
+mod AssemblyLaws

@@ -1,0 +1,4 @@
+pub mod Outlines
+pub mod Layers
+pub mod Choosing
+pub mod Assembled
