@@ -1,0 +1,8 @@
+-- what is seen of values and states
+pub mod Seen
+-- reads and writes of what is seen
+pub mod Access
+-- expressions under guards
+pub mod Follow
+-- statements under guards
+pub mod Leave
