@@ -1,13 +1,15 @@
 -- Statements that follow their meanings: in order, under conditions, and turns of loops.
-use Rattle.std.proofs.Common.{◌≡◌, ℕ, ◌-◌, ◌*◌, Bool, true, false, if◌then◌else◌, map, refl, sym, ap, ◌∙◌, subst, arith}
+use Rattle.std.proofs.Common.{◌≡◌, ℕ, ◌-◌, ◌*◌, Bool, true, false, if◌then◌else◌, map, refl, sym, ap, ◌∙◌, subst, arith, ◌≤◌}
 use Rattle.c_meaning.specs.declared.values.Ending.{Ending}
 use Rattle.c_meaning.specs.declared.values.Ending.TheVariants as ending
 use Rattle.c_meaning.specs.State.{State}
-use Rattle.c_meaning.specs.Expressions.{Evaluated, Gives, Past}
+use Rattle.c_meaning.specs.Expressions.{Eval, Evaluated, Gives, Past, Value, after, holds}
 use Rattle.c_meaning.specs.Statements.{Exec, Ran, ends, continued, then_run, ran_after, finally}
 use Rattle.exec_state.specs.Seen.{Picture, Shows, IsTruth, seen, seen_objects}
 use Rattle.exec_state.specs.Follow.{Ended, Follows}
-use Rattle.exec_state.specs.Leave.{Exits, no_exit, exit_of, exit_normal, LeftBy, Left, Rests, Runs, exits_then, exits_either}
+use Rattle.exec_state.specs.Operands.{holding}
+use Rattle.exec_state.specs.Leave.{Exits, no_exit, exit_of, exit_normal, LeftBy, Left, Rests, Runs, exits_then, exits_either, either_guard}
+use Rattle.exec_state.proofs.GuardLaws.{either_assoc, either_none, either_zero}
 
 -- ---- the empty statement, and jumps
 
@@ -158,3 +160,40 @@ runs_without_jumps g a b x run none no_more never ran = (
     left on ending.Continue t l = absurd (cc)
     left on ending.Return t l = absurd (cc)
     left on ending.Past t l = l
+
+-- `if`, by the value of its condition
+pub runs_if : (g c : ℕ) (a b m d : Picture) (x y : Exits) (condition : Eval) (consequence alternative : Exec) →
+    Follows g a b (IsTruth c) (holding condition) → Runs (g * c) b m x consequence → Runs (g * (1 - c)) m d y alternative →
+    Runs g a d (exits_either x y) (λ s. ran_after (condition s) (λ v s. if holds v then consequence s else alternative s))
+runs_if g c a b m d x y condition consequence alternative tested first second = (whole.0, λ on s shows. subst (Left a d (exits_either x y)) (same (condition s)) (whole.1 on s shows))
+  where
+    next : Bool → Exec
+    next truth s = if truth then consequence s else alternative s
+
+    whole : Runs g a d (exits_either x y) (λ s. ran_after (holding condition s) next)
+    whole = runs_after g a b d (IsTruth c) (exits_either x y) next (holding condition) tested (rests_either g c b m d x y consequence alternative first.0 second.0)
+        (λ truth is on t shows. runs_either g c b m d x y consequence alternative truth is first second on t shows)
+
+    same : (r : Evaluated Value) → ran_after (after r (λ v s. Gives (holds v) s)) next ≡ ran_after r (λ v s. if holds v then consequence s else alternative s)
+    same (Gives v s) = refl
+    same (Past s) = refl
+
+-- ---- exits that are gathered
+
+pub exits_then_assoc : (x y z : Exits) → x.breaks ≤ 1 → x.continues ≤ 1 → x.returns ≤ 1 → exits_then (exits_then x y) z ≡ exits_then x (exits_then y z)
+exits_then_assoc x y z b c r =
+    ap (λ (n : ℕ). record { normal = z.normal; breaks = n; continues = either_guard (either_guard x.continues y.continues) z.continues; returns = either_guard (either_guard x.returns y.returns) z.returns }) (either_assoc x.breaks y.breaks z.breaks b)
+    ∙ ap (λ (n : ℕ). record { normal = z.normal; breaks = either_guard x.breaks (either_guard y.breaks z.breaks); continues = n; returns = either_guard (either_guard x.returns y.returns) z.returns }) (either_assoc x.continues y.continues z.continues c)
+    ∙ ap (λ (n : ℕ). record { normal = z.normal; breaks = either_guard x.breaks (either_guard y.breaks z.breaks); continues = either_guard x.continues (either_guard y.continues z.continues); returns = n }) (either_assoc x.returns y.returns z.returns r)
+
+pub exits_first : (g : ℕ) (y : Exits) → exits_then (exit_normal g) y ≡ y
+exits_first g y =
+    ap (λ (n : ℕ). record { normal = y.normal; breaks = n; continues = either_guard 0 y.continues; returns = either_guard 0 y.returns }) (either_zero y.breaks)
+    ∙ ap (λ (n : ℕ). record { normal = y.normal; breaks = y.breaks; continues = n; returns = either_guard 0 y.returns }) (either_zero y.continues)
+    ∙ ap (λ (n : ℕ). record { normal = y.normal; breaks = y.breaks; continues = y.continues; returns = n }) (either_zero y.returns)
+
+pub exits_last : (x : Exits) → exits_then x (exit_normal x.normal) ≡ x
+exits_last x =
+    ap (λ (n : ℕ). record { normal = x.normal; breaks = n; continues = either_guard x.continues 0; returns = either_guard x.returns 0 }) (either_none x.breaks)
+    ∙ ap (λ (n : ℕ). record { normal = x.normal; breaks = x.breaks; continues = n; returns = either_guard x.returns 0 }) (either_none x.continues)
+    ∙ ap (λ (n : ℕ). record { normal = x.normal; breaks = x.breaks; continues = x.continues; returns = n }) (either_none x.returns)

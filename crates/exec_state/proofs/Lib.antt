@@ -2,6 +2,8 @@
 pub mod FollowLaws
 -- operands of "&&" and "||", arguments, steps of a chain
 pub mod OperandLaws
+-- guards of which one or the other holds
+pub mod GuardLaws
 -- statements in order and under conditions
 pub mod LeaveLaws
 -- turns of loops

@@ -1,5 +1,5 @@
 -- Loops that follow their meanings: what is left of the turns, under the guard that is live, gives what the whole gives.
-use Rattle.std.proofs.Common.{◌≡◌, ℕ, zero, suc, ◌*◌, ◌≤◌, Bool, true, false, if◌then◌else◌, refl, sym, ap, ◌∙◌, subst, arith}
+use Rattle.std.proofs.Common.{◌≡◌, ℕ, zero, suc, ◌*◌, Bool, true, false, if◌then◌else◌, refl, sym, ap, ◌∙◌, subst, arith}
 use Rattle.c_meaning.specs.declared.values.Ending.{Ending}
 use Rattle.c_meaning.specs.declared.values.Ending.TheVariants as ending
 use Rattle.c_meaning.specs.State.{State}
@@ -176,21 +176,3 @@ do_passes g a test body = (
   },
   λ on s shows. let k : a.past ≡ 0 = shows.kept in rw (k, on) refl,
 )
-
--- ---- the guard of returns, which is gathered over turns
-
-either_zero : (y : ℕ) → either_guard 0 y ≡ y
-either_zero y = omega arith
-
-either_one : (y : ℕ) → either_guard 1 y ≡ 1
-either_one y = omega arith
-
-pub either_assoc : (x y z : ℕ) → x ≤ 1 → either_guard (either_guard x y) z ≡ either_guard x (either_guard y z)
-either_assoc zero y z h = ap (λ n. either_guard n z) (either_zero y) ∙ sym (either_zero (either_guard y z))
-either_assoc (suc zero) y z h = ap (λ n. either_guard n z) (either_one y) ∙ either_one z ∙ sym (either_one (either_guard y z))
-either_assoc (suc (suc x)) y z h = absurd (omega arith)
-
-pub either_bit : (x y : ℕ) → x ≤ 1 → y ≤ 1 → either_guard x y ≤ 1
-either_bit zero y hx hy = omega arith
-either_bit (suc zero) y hx hy = omega arith
-either_bit (suc (suc x)) y hx hy = absurd (omega arith)

@@ -1,21 +1,14 @@
 -- Lists of operands that follow their meanings: what is left of a list, from what the words hold so far, gives what the whole gives.
-use Rattle.std.proofs.Common.{◌≡◌, ℕ, ◌+◌, ◌-◌, ◌*◌, ◌==◌, Bool, true, false, if◌then◌else◌, List, [], ◌∷◌, map, refl, sym, ap, ◌∙◌, subst, arith}
+use Rattle.std.proofs.Common.{◌≡◌, ℕ, ◌+◌, ◌-◌, ◌*◌, Bool, true, false, if◌then◌else◌, List, [], ◌∷◌, map, refl, sym, ap, ◌∙◌, subst, arith}
 use Rattle.c_meaning.specs.declared.values.Cell.{Cell}
 use Rattle.c_meaning.specs.State.{State}
 use Rattle.c_meaning.specs.Expressions.{Evaluated, Gives, Past, Eval, Value, after, along, all_hold, any_holds, each_value, holds}
 use Rattle.exec_state.specs.Seen.{Picture, Shows, IsTruth, IsSeen, AreSeen, seen}
 use Rattle.exec_state.specs.Follow.{Ended, Passes, Goes, Follows}
+use Rattle.exec_state.specs.Operands.{GoesAlong, all_left, any_left, holding}
 use Rattle.exec_state.proofs.FollowLaws.{passes_still, passes_on, passes_where, goes_on, follows_on}
 
 -- ---- "&&"
-
--- whether a value holds
-abbrev pub truth_of : Eval → State → Evaluated Bool
-truth_of operand s = after (operand s) (λ v s. Gives (holds v) s)
-
--- the operands that are left, where those before hold or not
-abbrev pub all_left : ℕ → List Eval → State → Evaluated Bool
-all_left c operands s = if c == 1 then all_hold operands s else Gives false s
 
 module _ (g : ℕ) (b m d : Picture) (operand : Eval) (operands : List Eval) (e f : ℕ) where
   all_after : (r : Evaluated Value) → Ended m (IsTruth e) (after r (λ v s. Gives (holds v) s)) → (m.past ≡ 1 → d.past ≡ 1) → ((t : State) → Shows m t → Ended d (IsTruth f) (all_left e operands t)) → Ended d (IsTruth f) (after r (λ v s. if holds v then all_hold operands s else Gives false s))
@@ -27,7 +20,7 @@ module _ (g : ℕ) (b m d : Picture) (operand : Eval) (operands : List Eval) (e 
   all_after (Past t) ended past rest = past ended
 
   -- the next operand, under the guard where those before hold
-  pub all_more : (c : ℕ) (before : Bool) → IsTruth c before → Follows (g * c) b m (IsTruth e) (truth_of operand) → Follows g m d (IsTruth f) (all_left (c * e) operands) → Follows g b d (IsTruth f) (all_left c (operand ∷ operands))
+  pub all_more : (c : ℕ) (before : Bool) → IsTruth c before → Follows (g * c) b m (IsTruth e) (holding operand) → Follows g m d (IsTruth f) (all_left (c * e) operands) → Follows g b d (IsTruth f) (all_left c (operand ∷ operands))
   all_more c before is first rest = (passes_on g b m d (passes_where g c b m first.0) rest.0, goes before is)
     where
       goes : (h : Bool) → IsTruth c h → Goes g b d (IsTruth f) (all_left c (operand ∷ operands))
@@ -41,6 +34,15 @@ module _ (g : ℕ) (b m d : Picture) (operand : Eval) (operands : List Eval) (e 
           let zero : c * e ≡ 0 = rw none (omega arith) in
           rw none (subst (λ n. Ended d (IsTruth f) (all_left n operands s)) zero (rest.1 on s shown))
 
+-- the first operand
+pub all_first : (g : ℕ) (b m d : Picture) (operand : Eval) (operands : List Eval) (e f : ℕ) → Follows g b m (IsTruth e) (holding operand) → Follows g m d (IsTruth f) (all_left e operands) → Follows g b d (IsTruth f) (all_hold (operand ∷ operands))
+all_first g b m d operand operands e f first rest =
+    let same : g * 1 ≡ g = omega arith in
+    let one : 1 * e ≡ e = omega arith in
+    all_more g b m d operand operands e f 1 true refl
+    (subst (λ n. Follows n b m (IsTruth e) (holding operand)) (sym same) first)
+    (subst (λ n. Follows g m d (IsTruth f) (all_left n operands)) (sym one) rest)
+
 pub all_done : (g c : ℕ) (b : Picture) (before : Bool) → IsTruth c before → Follows g b b (IsTruth c) (all_left c [])
 all_done g c b before is = (passes_still g b, goes before is)
   where
@@ -49,9 +51,6 @@ all_done g c b before is = (passes_still g b, goes before is)
     goes false is on s shows = let none : c ≡ 0 = is in rw none (shows, refl)
 
 -- ---- "||"
-
-abbrev pub any_left : ℕ → List Eval → State → Evaluated Bool
-any_left c operands s = if c == 1 then Gives true s else any_holds operands s
 
 module _ (g : ℕ) (b m d : Picture) (operand : Eval) (operands : List Eval) (e f : ℕ) where
   any_after : (r : Evaluated Value) → Ended m (IsTruth e) (after r (λ v s. Gives (holds v) s)) → (m.past ≡ 1 → d.past ≡ 1) → ((t : State) → Shows m t → Ended d (IsTruth f) (any_left e operands t)) → Ended d (IsTruth f) (after r (λ v s. if holds v then Gives true s else any_holds operands s))
@@ -63,7 +62,7 @@ module _ (g : ℕ) (b m d : Picture) (operand : Eval) (operands : List Eval) (e 
   any_after (Past t) ended past rest = past ended
 
   -- the next operand, under the guard where none before holds
-  pub any_more : (c : ℕ) (before : Bool) → IsTruth c before → Follows (g * (1 - c)) b m (IsTruth e) (truth_of operand) → Follows g m d (IsTruth f) (any_left (c + e - c * e) operands) → Follows g b d (IsTruth f) (any_left c (operand ∷ operands))
+  pub any_more : (c : ℕ) (before : Bool) → IsTruth c before → Follows (g * (1 - c)) b m (IsTruth e) (holding operand) → Follows g m d (IsTruth f) (any_left (c + e - c * e) operands) → Follows g b d (IsTruth f) (any_left c (operand ∷ operands))
   any_more c before is first rest = (passes_on g b m d (passes_where g (1 - c) b m first.0) rest.0, goes before is)
     where
       goes : (h : Bool) → IsTruth c h → Goes g b d (IsTruth f) (any_left c (operand ∷ operands))
@@ -76,6 +75,15 @@ module _ (g : ℕ) (b m d : Picture) (operand : Eval) (operands : List Eval) (e 
       goes false is on s shows =
           let none : c ≡ 0 = is in
           rw none (any_after (operand s) (first.1 (rw (none, on) refl) s shows) rest.0.past (λ t shown. subst (λ n. Ended d (IsTruth f) (any_left n operands t)) (rw none (omega arith)) (rest.1 on t shown)))
+
+-- the first operand
+pub any_first : (g : ℕ) (b m d : Picture) (operand : Eval) (operands : List Eval) (e f : ℕ) → Follows g b m (IsTruth e) (holding operand) → Follows g m d (IsTruth f) (any_left e operands) → Follows g b d (IsTruth f) (any_holds (operand ∷ operands))
+any_first g b m d operand operands e f first rest =
+    let same : g * (1 - 0) ≡ g = omega arith in
+    let zero : 0 + e - 0 * e ≡ e = omega arith in
+    any_more g b m d operand operands e f 0 false refl
+    (subst (λ n. Follows n b m (IsTruth e) (holding operand)) (sym same) first)
+    (subst (λ n. Follows g m d (IsTruth f) (any_left n operands)) (sym zero) rest)
 
 pub any_done : (g c : ℕ) (b : Picture) (before : Bool) → IsTruth c before → Follows g b b (IsTruth c) (any_left c [])
 any_done g c b before is = (passes_still g b, goes before is)
@@ -97,10 +105,6 @@ pub each_done : (g : ℕ) (b : Picture) → Follows g b b (AreSeen []) (each_val
 each_done g b = (passes_still g b, λ on s shows. (shows, refl))
 
 -- ---- steps of a chain
-
--- what the steps that are left make of any value that is shown
-abbrev pub GoesAlong : (guard : ℕ) → (old new : Picture) → (v w : List Cell) → List (Value → Eval) → Type 0
-GoesAlong guard old new v w steps = Passes guard old new × ((u : Value) → IsSeen v u → Goes guard old new (IsSeen w) (along steps u))
 
 pub along_more : (g : ℕ) (b m d : Picture) (v x w : List Cell) (step : Value → Eval) (steps : List (Value → Eval)) →
     Passes g b m → ((u : Value) → IsSeen v u → Goes g b m (IsSeen x) (step u)) → GoesAlong g m d x w steps → GoesAlong g b d v w (step ∷ steps)

@@ -4,5 +4,7 @@ pub mod Seen
 pub mod Access
 -- expressions under guards
 pub mod Follow
+-- operands that are left of a list
+pub mod Operands
 -- statements under guards
 pub mod Leave
