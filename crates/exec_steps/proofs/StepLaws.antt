@@ -11,7 +11,7 @@ use Rattle.c_meaning.specs.declared.values.Cell.TheVariants as cell
 use Rattle.c_meaning.specs.Expressions.{Evaluated, Eval, Gives, Value, after, of_truth}
 use Rattle.std.specs.Prelude.{Option, None, Some}
 use Rattle.exec_state.specs.Seen.{Picture, Shows, IsSeen, IsTruth}
-use Rattle.exec_state.specs.Follow.{Ended, Follows}
+use Rattle.exec_state.specs.Follow.{Ended, Follows, Goes, Passes}
 use Rattle.exec_state.proofs.FollowLaws.{follows_with}
 use Rattle.exec_values.specs.declared.values.WordValue.{WordValue}
 use Rattle.exec_values.specs.Views.{value_cells}
@@ -20,7 +20,7 @@ use Rattle.word_nodes.proofs.NodeLaws.{Extends-length, Extends-then, Stands-late
 use Rattle.hy_bits.specs.declared.width.Width.TheVariants.{W1}
 use Rattle.exec_values.proofs.GrowingLaws.{Grows_none, Grows_one, Grows_then, picture_later}
 use Rattle.exec_steps.specs.declared.running.Running.{Running}
-use Rattle.exec_steps.specs.Running.{Continues, IsRunning, OnlyGrows, shown, Turns, TurnsBack, TurnsTruth}
+use Rattle.exec_steps.specs.Running.{Continues, IsRunning, OnlyGrows, shown, Turns, TurnsBack, TurnsRight, TurnsTruth}
 
 -- what is shown stays
 pub shown_later : (region : ℕ) (old new : Running) (ins : List ℕ) → IsRunning old → OnlyGrows region old new → shown new ins ≡ shown old ins
@@ -96,3 +96,13 @@ only_then region old mid new first second = record {
   past = second.past ∙ first.past;
   returned = second.returned ∙ first.returned;
 }
+
+pub turns_right : (region : ℕ) (old : Running) (es : List Entry) → IsRunning old → Extends region old.graph es → (left right r : WordValue) (f : Value → Value → Eval) →
+    ((ins : List ℕ) → InputsFit old.graph ins → (u x : Value) (t : State) → IsSeen (value_cells old.graph ins left) u → IsSeen (value_cells old.graph ins right) x → Shows (shown old ins) t → Ended (shown old ins) (IsSeen (value_cells es ins r)) (f u x t)) →
+    TurnsRight f old (over old es) left right r
+turns_right region old es is grows left right r f ended ins fit g before run follows =
+    let still = shown_later region old (over old es) ins is (only_grows region old es grows) in (
+      subst (λ (p : Picture). Passes g before p) (sym still) follows.0,
+      λ u seen_u. subst (λ (p : Picture). Goes g before p (IsSeen (value_cells es ins r)) (λ s. after (run s) (λ x s. f u x s))) (sym still)
+          (follows_with g before (shown old ins) (IsSeen (value_cells old.graph ins right)) (IsSeen (value_cells es ins r)) run (λ x s. f u x s) follows (λ x t seen_x shows. ended ins fit u x t seen_u seen_x shows)).1,
+    )

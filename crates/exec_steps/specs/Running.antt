@@ -6,10 +6,10 @@ use Rattle.word_graph.specs.declared.entry.Node.{Node}
 use Rattle.word_graph.specs.Meaning.{InputsFit}
 use Rattle.word_nodes.specs.Nodes.{Stands, worth, Extends}
 use Rattle.c_meaning.specs.State.{State}
-use Rattle.c_meaning.specs.Expressions.{Eval, Evaluated, Gives, after, of_truth}
+use Rattle.c_meaning.specs.Expressions.{Eval, Evaluated, Gives, Value, after, of_truth}
 use Rattle.c_place.specs.Boards.{IsBoard, layout}
 use Rattle.exec_state.specs.Seen.{Picture, IsSeen, IsTruth}
-use Rattle.exec_state.specs.Follow.{Follows}
+use Rattle.exec_state.specs.Follow.{Follows, Goes, Passes}
 use Rattle.exec_values.specs.declared.values.WordValue.{WordValue}
 use Rattle.exec_values.specs.Growing.{Grows}
 use Rattle.exec_values.specs.Views.{value_cells, picture}
@@ -64,3 +64,11 @@ abbrev pub TurnsBack : (old new : Running) → Node → WordValue → Type 0
 TurnsBack old new n r =
     (ins : List ℕ) → InputsFit old.graph ins → (g : ℕ) (before : Picture) (run : State → Evaluated Bool) →
     Follows g before (shown old ins) (IsTruth (worth old.graph ins n)) run → Follows g before (shown new ins) (IsSeen (value_cells new.graph ins r)) (λ s. after (run s) (λ b s. Gives (of_truth b) s))
+
+-- the value on the right of an operator that follows a meaning becomes what f makes of it and of any value that stands on the left
+abbrev pub TurnsRight : (Value → Value → Eval) → (old new : Running) → (left right r : WordValue) → Type 0
+TurnsRight f old new left right r =
+    (ins : List ℕ) → InputsFit old.graph ins → (g : ℕ) (before : Picture) (run : Eval) →
+    Follows g before (shown old ins) (IsSeen (value_cells old.graph ins right)) run →
+    Passes g before (shown new ins)
+    × ((u : Value) → IsSeen (value_cells old.graph ins left) u → Goes g before (shown new ins) (IsSeen (value_cells new.graph ins r)) (λ s. after (run s) (λ x s. f u x s)))
