@@ -7,8 +7,9 @@ use Rattle.c_scopes.specs.Scopes.{Bound, Scopes, found, before, all_but_last, de
 use Rattle.c_addresses.specs.Scans.{marks}
 use Rattle.c_typing.specs.declared.environment.Entity.{Entity}
 use Rattle.c_typing.specs.declared.environment.Entity.TheVariants as entity
+use Rattle.expression_laws.specs.Keeping.{Each}
 use Rattle.address_laws.specs.Following.{Outside, later, FollowsIn, TakenIn}
-use Rattle.address_laws.proofs.Lists.{pushed-at, kept-at, put-same, put-kept, put-length, found-among, last-before, without-last, pushed-map, take-after, length-after}
+use Rattle.address_laws.proofs.Lists.{each-append, each-weaker, each-taken, pushed-at, kept-at, put-same, put-kept, put-length, found-among, last-before, without-last, pushed-map, take-after, length-after}
 
 -- ---- marks
 
@@ -33,6 +34,7 @@ module _ (o : Outside) (scanned : Scopes) (addressed : List Bool) (names : Scope
     below = f.below;
     bound = f.bound;
     opened = f.opened;
+    numbers = subst (λ (n : ℕ). Each (λ (b : Bound). b.number < n) scanned.bound) (sym (marks-length q addressed)) f.numbers;
     count = f.count ∙ ap (λ (n : ℕ). o.base + n) (sym (marks-length q addressed));
     within = f.within;
     apart = f.apart;
@@ -80,6 +82,15 @@ module _ (o : Outside) (scanned : Scopes) (addressed : List Bool) (names : Scope
       ∙ ap (λ (n : ℕ). (o.names.bound ++ map (later o.base) scanned.bound) ++ here n ∷ []) f.count
       ∙ sym (pushed-map (later o.base) o.names.bound scanned.bound (here (length addressed)))
 
+  one-longer : length (addressed ++ false ∷ []) ≡ length addressed + 1
+  one-longer = length-append addressed (false ∷ [])
+
+  numbers-more : Each (λ (b : Bound). b.number < length (addressed ++ false ∷ [])) (declared name (length addressed) scanned).bound
+  numbers-more =
+      each-append (λ (b : Bound). b.number < length (addressed ++ false ∷ [])) scanned.bound (here (length addressed) ∷ [])
+      (each-weaker (λ (b : Bound). b.number < length addressed) (λ (b : Bound). b.number < length (addressed ++ false ∷ [])) scanned.bound (λ b lt. omega (arith, lt, one-longer)) f.numbers)
+      (omega (arith, one-longer), tt)
+
   count-more : (e : Entity) → length (entities ++ e ∷ []) ≡ o.base + length (addressed ++ false ∷ [])
   count-more e =
       let one : length (entities ++ e ∷ []) ≡ length entities + 1 = length-append entities (e ∷ []) in
@@ -100,6 +111,7 @@ module _ (o : Outside) (scanned : Scopes) (addressed : List Bool) (names : Scope
       below = f.below;
       bound = bound-more;
       opened = f.opened;
+      numbers = numbers-more;
       count = count-more e;
       within = λ i k h. f.within i k (still i k h);
       apart = λ i j k h l. f.apart i j k (still i k h) (still j k l);
@@ -148,6 +160,7 @@ module _ (o : Outside) (scanned : Scopes) (addressed : List Bool) (names : Scope
       below = f.below;
       bound = bound-more;
       opened = f.opened;
+      numbers = numbers-more;
       count = count-more next;
       within = λ i k h. within-by i k (cases i k h);
       apart = λ i j k h l. apart-by i j k (cases i k h) (cases j k l);
@@ -168,6 +181,7 @@ module _ (o : Outside) (scanned : Scopes) (addressed : List Bool) (names : Scope
         ap (λ (ns : List ℕ). ns ++ length names.bound ∷ []) f.opened
         ∙ ap (λ (n : ℕ). (o.names.opened ++ map shifted scanned.opened) ++ n ∷ []) (ap (λ (bs : List Bound). length bs) f.bound ∙ length-after (later o.base) o.names.bound scanned.bound)
         ∙ sym (pushed-map shifted o.names.opened scanned.opened (length scanned.bound));
+    numbers = f.numbers;
     count = f.count;
     within = f.within;
     apart = f.apart;
@@ -190,6 +204,7 @@ module _ (o : Outside) (scanned : Scopes) (addressed : List Bool) (names : Scope
           ap all_but_last names-opened
           ∙ without-last (o.names.opened ++ map shifted opened) (shifted n)
           ∙ ap (λ (ns : List ℕ). o.names.opened ++ map shifted ns) (sym (ap all_but_last e ∙ without-last opened n));
+      numbers = each-taken (λ (b : Bound). b.number < length addressed) (before scanned.opened) scanned.bound f.numbers;
       count = f.count;
       within = f.within;
       apart = f.apart;
@@ -212,6 +227,7 @@ module _ (o : Outside) (scanned : Scopes) (addressed : List Bool) (names : Scope
       below = f.below;
       bound = f.bound;
       opened = f.opened;
+      numbers = f.numbers;
       count = f.count;
       within = nameless-within;
       apart = f.apart;

@@ -26,6 +26,11 @@ pub each-weaker : {A : Type 0} (P Q : A → Type 0) (xs : List A) → ((x : A) �
 each-weaker P Q [] f h = tt
 each-weaker P Q (x ∷ xs) f h = (f x h.0, each-weaker P Q xs f h.1)
 
+pub each-taken : {A : Type 0} (P : A → Type 0) (n : ℕ) (xs : List A) → Each P xs → Each P (take n xs)
+each-taken P zero xs h = tt
+each-taken P (suc n) [] h = tt
+each-taken P (suc n) (x ∷ xs) h = (h.0, each-taken P n xs h.1)
+
 pub all-of-more : {A : Type 0} (P : ℕ → Type 0) (f : A → List ℕ) (xs : List A) (y : A) → Each P (all_of (map f xs)) → Each P (f y) → Each P (all_of (map f (xs ++ y ∷ [])))
 all-of-more P f [] y h k = each-append P (f y) [] k tt
 all-of-more P f (x ∷ xs) y h k =

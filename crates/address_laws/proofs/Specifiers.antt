@@ -137,7 +137,7 @@ module _ (o : Outside) where
   struct-traced place name (Some walks) None h = absurd h
   struct-traced place name (Some walks) (Some scans) h = body-traced name walks scans h
 
-  object-type : (place : Place) (q : QualifiedType) (s : Scanning) (env : Environment) → Follows o s env → Passing (Silent s env) (object_type place q env)
+  pub object-type : (place : Place) (q : QualifiedType) (s : Scanning) (env : Environment) → Follows o s env → Passing (Silent s env) (object_type place q env)
   object-type place q s env f = passing-if (Silent s env) (layer_is_void (out-CType q.ctype)) (Breaks Mismatch place) (Passes q env) (λ e. tt) (λ e. traced-same o nothing_taken s env q f tt)
 
   -- the type of an object

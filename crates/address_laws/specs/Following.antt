@@ -29,6 +29,7 @@ pub record FollowsIn (o : Outside) (scanned : Scopes) (addressed : List Bool) (n
   pub below : (name : List ℕ) (n : ℕ) → found o.names.bound name ≡ Some n → n < o.base
   pub bound : names.bound ≡ o.names.bound ++ map (later o.base) scanned.bound
   pub opened : names.opened ≡ o.names.opened ++ map (λ n. length o.names.bound + n) scanned.opened
+  pub numbers : Each (λ b. b.number < length addressed) scanned.bound
   pub count : length entities ≡ o.base + length addressed
   pub within : (i k : ℕ) → slice_get entities i ≡ Some (entity.Object k) → k < length objects
   pub apart : (i j k : ℕ) → slice_get entities i ≡ Some (entity.Object k) → slice_get entities j ≡ Some (entity.Object k) → i ≡ j

@@ -5,9 +5,7 @@ use Rattle.c_meaning.specs.declared.expressions.Lvalue.{Lvalue}
 use Rattle.c_meaning.specs.declared.expressions.ChainStep.{ChainStep}
 use Rattle.c_meaning.specs.declared.expressions.LogicalOperand.{LogicalOperand}
 use Rattle.c_meaning.specs.declared.expressions.Lvalue.TheFolds.{fold-Lvalue, fold-ChainStep, fold-LogicalOperand}
-use Rattle.c_meaning.specs.declared.statements.Part.{Part}
-use Rattle.c_meaning.specs.declared.statements.TypedDeclarator.{TypedDeclarator}
-use Rattle.c_meaning.specs.Uses.{Taken, Numbers, lvalue_takes, expr_takes, step_takes, operand_takes, taken_in, taken_by_lvalue, taken_where, declarator_takes}
+use Rattle.c_meaning.specs.Uses.{Taken, Numbers, lvalue_takes, expr_takes, step_takes, operand_takes, taken_in, taken_by_lvalue}
 use Rattle.c_typing.specs.declared.values.TypedValue.{TypedValue}
 use Rattle.c_typing.specs.declared.values.Typing.{Typing}
 use Rattle.c_typing.specs.declared.values.Typing.TheVariants.{Designates, Gives}
@@ -46,11 +44,3 @@ values_take (value ∷ values) = taken_in value.expr ++ values_take values
 
 abbrev pub left_takes : Left → List ℕ
 left_takes left = taken_in left.value.expr
-
-abbrev pub parts_taken : List Part → List ℕ
-parts_taken [] = []
-parts_taken (part ∷ parts) = taken_where part.value ++ parts_taken parts
-
-abbrev pub declarators_take : List TypedDeclarator → List ℕ
-declarators_take [] = []
-declarators_take (d ∷ ds) = declarator_takes d ++ declarators_take ds
