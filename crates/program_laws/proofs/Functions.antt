@@ -1,4 +1,4 @@
--- Functions (C11 6.9.1): where their typing passes, they keep the rules of typed programs but those of counters.
+-- Functions (C11 6.9.1): where their typing passes, they keep the rules of typed programs.
 use Rattle.std.proofs.Common.{◌≡◌, ◌⊎◌, inl, inr, ◌≤◌, ◌<◌, ◌&&◌, ◌++◌, ℕ, zero, suc, Bool, true, false, if◌then◌else◌, Option, None, Some, List, [], ◌∷◌, length, slice_get, ap, sym, subst, ◌∙◌, refl, arith, not, is_some, map, drop, Contains}
 use Rattle.std.proofs.lemmas.Grind.{common_steps}
 use Rattle.std.proofs.lemmas.List.Elements.{Contains-append_left, Contains-push, Contains-push_cases}
