@@ -52,7 +52,7 @@ use Rattle.effect_laws.proofs.Effects.{effect-keeps}
 use Rattle.effect_laws.proofs.Lasting.{effect-lasts, expr-lasts, assignable-lasts}
 use Rattle.object_laws.specs.Declaring.{is_spelled_init, is_spelled_declaration, DeclaratorIn}
 use Rattle.object_laws.proofs.Declarations.{declarator-passing, specs-passing}
-use Rattle.statement_laws.specs.Uncounted.{IsUncountedItem}
+use Rattle.statement_laws.specs.Final.{IsTypedItem}
 use Rattle.statement_laws.proofs.Scoping.{scoped-keeps}
 use Rattle.statement_laws.proofs.Lasting.{declarator-lasts}
 use Rattle.statement_laws.proofs.Nodes.{block-statement, effect-statement, break-statement, continue-statement, return-statement, selection-statement, iteration-statement, statement-item, object-item, block-made}
@@ -161,7 +161,7 @@ module _ (body : Body) where
   pub statement-item-keeps : (walk : StatementWalk) → KeepsStatement body walk → KeepsItem body (λ around items env. after (walk around env) (λ s env. Passes (with_item (item.Statement s) items) env))
   statement-item-keeps walk h = λ around items env well r.
       grown-after (StatementIn body) (ItemsIn body) env (walk around env) (λ s env. Passes (with_item (item.Statement s) items) env) (h around env well)
-      (λ s new g w p. (extends-refl new, w, (λ within f. each-more (IsUncountedItem within) items.items (item.Statement s) (r within (final-before body env new g within f)) (statement-item within s (p within f)))))
+      (λ s new g w p. (extends-refl new, w, (λ within f. each-more (IsTypedItem within) items.items (item.Statement s) (r within (final-before body env new g within f)) (statement-item within s (p within f)))))
 
   module _ (q : QualifiedType) where
     abbrev SoFar : Environment → ItemList → Type 0
@@ -174,7 +174,7 @@ module _ (body : Body) where
           extends-refl new,
           w,
           (
-            (λ within f. each-more (IsUncountedItem within) items.items (item.Object declared) (r.0 within (final-before body env new g within f))
+            (λ within f. each-more (IsTypedItem within) items.items (item.Object declared) (r.0 within (final-before body env new g within f))
                 (object-item within declared (declarator-lasts (scope_of new) within.scope f.0 (scope-stands new w) declared fits))),
             plain-kept env new g well q.ctype r.1,
           ),

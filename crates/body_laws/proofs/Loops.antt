@@ -1,5 +1,5 @@
 -- Loops (C11 6.8.5): where their parts keep the rules of typed programs, they do.
-use Rattle.std.proofs.Common.{◌≡◌, ◌&&◌, Bool, true, false, Option, None, List, [], ◌∷◌, ◌++◌, map, refl}
+use Rattle.std.proofs.Common.{◌≡◌, ◌&&◌, ℕ, Bool, true, false, Option, None, List, [], ◌∷◌, ◌++◌, map, refl}
 use Rattle.c_tree.specs.declared.token.Place.{Place}
 use Rattle.c_tree.specs.declared.expressions.Expr.{Expr}
 use Rattle.c_tree.specs.declared.statements.LoopBound.{LoopBound}
@@ -12,12 +12,13 @@ use Rattle.c_meaning.specs.declared.statements.Controlling.{Controlling}
 use Rattle.c_meaning.specs.declared.statements.TypedDeclarator.{TypedDeclarator}
 use Rattle.c_meaning.specs.declared.statements.TypedFirst.{TypedFirst}
 use Rattle.c_meaning.specs.declared.statements.TypedFirst.TheVariants as first
+use Rattle.c_meaning.specs.declared.statements.TypedStep.{TypedStep}
 use Rattle.c_meaning.specs.declared.statements.TypedStatement.{TypedStatement}
 use Rattle.c_meaning.specs.declared.statements.TypedIteration.TheVariants as iteration
 use Rattle.c_meaning.specs.StatementRules.{Within, ControllingFits, ControllingWhere, FirstFits, StepFits, DeclaratorFits, DeclaratorsFit}
 use Rattle.c_typing.specs.declared.environment.Environment.{Environment}
 use Rattle.c_typing.specs.declared.environment.QualifiedType.{QualifiedType}
-use Rattle.c_typing.specs.Walks.{Passes, after, along}
+use Rattle.c_typing.specs.Walks.{Checked, Breaks, Passes, after, along}
 use Rattle.c_objects.specs.declared.initializers.Storage.TheVariants.{Automatic}
 use Rattle.c_objects.specs.Objects.{declarator_walk, declarator_after, object_specs, declaration_walk}
 use Rattle.c_heads.specs.declared.context.Body.{Body}
@@ -42,12 +43,14 @@ use Rattle.effect_laws.proofs.Conditions.{controlling-keeps, controlling-where-k
 use Rattle.effect_laws.proofs.Lasting.{controlling-lasts, controlling-where-lasts, step-where-lasts}
 use Rattle.object_laws.specs.Declaring.{is_spelled_init, is_spelled_declaration, DeclaratorIn}
 use Rattle.object_laws.proofs.Declarations.{declarator-passing, specs-passing}
-use Rattle.statement_laws.specs.Uncounted.{Finally, IsUncountedStatement}
+use Rattle.statement_laws.specs.Final.{Finally, IsTypedStatement, StepsAs}
 use Rattle.statement_laws.proofs.Scoping.{scoped-keeps}
 use Rattle.statement_laws.proofs.Lasting.{declarators-last, first-lasts}
 use Rattle.statement_laws.proofs.Nodes.{while-iteration, do-iteration, for-iteration}
+use Rattle.statement_laws.proofs.Steps.{step-stepped}
+use Rattle.statement_laws.proofs.Counters.{counter-fits}
 use Rattle.body_laws.specs.Statements.{is_few_bound, first_spelled, StatementIn, IterationIn, KeepsStatement}
-use Rattle.body_laws.proofs.Finals.{final-before, finally-lasts}
+use Rattle.body_laws.proofs.Finals.{final-before, finally-lasts, steps-last}
 use Rattle.body_laws.proofs.Bounds.{FewWhere, FewIn, counter-few, bounded-passing}
 
 both : (a b : Bool) → (a && b) ≡ true → (a ≡ true) × (b ≡ true)
@@ -132,7 +135,7 @@ module _ (body : Body) (few : FewWhere body.bound) where
       (λ c last j u r. grown-in (IterationIn body) last (after (bounded place body bound None last) (λ n env. Passes (iteration.Do (do_tokens bound) n s c) env)) u
       (stays-after FewIn (Stays (IterationIn body) last) last (bounded place body bound None last) (λ n env. Passes (iteration.Do (do_tokens bound) n s c) env)
       (bounded-passing place body bound None last few b tt)
-      (λ n le. (refl, λ within f. do-iteration within (do_tokens bound) n s c (finally-lasts IsUncountedStatement body new last j s p within f) (le, controlling-finally last u c r within f))))))
+      (λ n le. (refl, λ within f. do-iteration within (do_tokens bound) n s c (finally-lasts IsTypedStatement body new last j s p within f) (le, controlling-finally last u c r within f))))))
 
   -- ---- `for`
 
@@ -140,7 +143,18 @@ module _ (body : Body) (few : FewWhere body.bound) where
   HeadFits within head = FirstFits within.scope head.first × ControllingWhere within.scope head.condition × StepFits within.scope head.step
 
   abbrev HeadIn : Environment → ForHead → Type 0
-  HeadIn env head = Finally HeadFits body env head
+  HeadIn env head = Finally HeadFits body env head × StepsAs head.number env head.step
+
+  -- a step, and the declaration of what it changes
+  abbrev SteppedIn : Option ℕ → Environment → Option TypedStep → Type 0
+  SteppedIn number env step = StepWhere env step × StepsAs number env step
+
+  stepped-in : (number : Option ℕ) (env : Environment) (c : Checked (Option TypedStep)) → Passing (Grown StepWhere env) c → Passing (λ step new. StepsAs number env step) c → Passing (Grown (SteppedIn number) env) c
+  stepped-in number env (Breaks kind place) h k = tt
+  stepped-in number env (Passes step new) h k = (h.0, h.1, (h.2, steps-last number env new h.0 step k))
+
+  stepped-keeps : (step : Option ExpressionStatement) → SpelledStep step → (env : Environment) → IsWellFormed env → Passing (Grown (SteppedIn (step_number env step)) env) (step_where step env)
+  stepped-keeps step s env well = stepped-in (step_number env step) env (step_where step env) (step-where-keeps step s env well) (step-stepped step env)
 
   for-head-keeps : (place : Place) (initial : First) (condition : Option Expr) (step : Option ExpressionStatement) → first_spelled initial ≡ true → SpelledWhere condition → SpelledStep step
       → Keeps HeadIn (for_head place initial condition step)
@@ -152,17 +166,21 @@ module _ (body : Body) (few : FewWhere body.bound) where
       (λ f one g w r. grown-after ControllingWhereIn HeadIn one (controlling_where place condition one)
       (λ c env. let number = step_number env step in
       after (step_where step env) (λ s env. Passes (record { first = f; condition = c; number = number; step = s }) env)) (controlling-where-keeps place condition c one w)
-      (λ con two j u p. grown-after StepWhere HeadIn two (step_where step two) (λ s env. Passes (record { first = f; condition = con; number = step_number two step; step = s }) env) (step-where-keeps step s two u)
+      (λ con two j u p. grown-after (SteppedIn (step_number two step)) HeadIn two (step_where step two) (λ s env. Passes (record { first = f; condition = con; number = step_number two step; step = s }) env)
+      (stepped-keeps step s two u)
       (λ st last i v q. (
         extends-refl last,
         v,
-        λ within fin.
-            let at-two = final-before body two last i within fin in
-            let at-one = final-before body one two j within at-two in (
-              first-lasts (scope_of one) within.scope at-one.0 (scope-stands one w) f r,
-              controlling-where-lasts (scope_of two) within.scope at-two.0 (scope-stands two u) con p,
-              step-where-lasts (scope_of last) within.scope fin.0 (scope-stands last v) st q,
-            ),
+        (
+          λ within fin.
+              let at-two = final-before body two last i within fin in
+              let at-one = final-before body one two j within at-two in (
+                first-lasts (scope_of one) within.scope at-one.0 (scope-stands one w) f r,
+                controlling-where-lasts (scope_of two) within.scope at-two.0 (scope-stands two u) con p,
+                step-where-lasts (scope_of last) within.scope fin.0 (scope-stands last v) st q.0,
+              ),
+          q.1,
+        ),
       ))))
 
   for-end-passing : (bound : Option LoopBound) (place : Place) (initial : First) (head : ForHead) (s : TypedStatement) (env : Environment) → is_few_bound bound ≡ true → HeadIn env head → StatementIn body env s
@@ -172,7 +190,13 @@ module _ (body : Body) (few : FewWhere body.bound) where
       stays-after FewIn (Stays (IterationIn body) env) env (bounded place body bound counter env)
       (λ n env. Passes (iteration.For (for_tokens bound initial) n counter head.first head.condition head.step s) env)
       (bounded-passing place body bound counter env few b (counter-few body head.number head.first head.condition head.step s))
-      (λ n le. (refl, λ within f. for-iteration within (for_tokens bound initial) n counter head.first head.condition head.step s (k within f) (le, (h within f).0, (h within f).1, (h within f).2)))
+      (λ n le. (
+        refl,
+        λ within f.
+            let fits = h.0 within f in
+            for-iteration within (for_tokens bound initial) n counter head.first head.condition head.step s (k within f)
+            (le, fits.0, fits.1, fits.2, counter-fits body env within f.2 head.first s head.number head.condition head.step h.1 fits.2),
+      ))
 
   pub for-keeps : (bound : Option LoopBound) (place : Place) (initial : First) (condition : Option Expr) (step : Option ExpressionStatement) (inner : StatementWalk) → is_few_bound bound ≡ true → first_spelled initial ≡ true
       → SpelledWhere condition → SpelledStep step → KeepsStatement body inner → Keeps (IterationIn body) (for_walk body bound place initial condition step inner)
@@ -181,4 +205,4 @@ module _ (body : Body) (few : FewWhere body.bound) where
       (for-head-keeps place initial condition step h c s env well)
       (λ head new g w r. grown-after (StatementIn body) (IterationIn body) new (scoped (inner in_loop) new) (λ s env. for_end body bound place initial head s env) (inner-keeps inner k new w)
       (λ st last j u p. grown-in (IterationIn body) last (for_end body bound place initial head st last) u
-      (for-end-passing bound place initial head st last b (finally-lasts HeadFits body new last j head r) p)))
+      (for-end-passing bound place initial head st last b (finally-lasts HeadFits body new last j head r.0, steps-last head.number new last j head.step r.1) p)))

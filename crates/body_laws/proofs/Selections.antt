@@ -46,7 +46,7 @@ use Rattle.source_laws.proofs.Sources.{expr-typed}
 use Rattle.effect_laws.specs.Simple.{ConditionIn}
 use Rattle.effect_laws.proofs.Conditions.{condition-keeps}
 use Rattle.effect_laws.proofs.Lasting.{condition-lasts, expr-lasts}
-use Rattle.statement_laws.specs.Uncounted.{Finally, IsUncountedStatement, IsUncountedSection}
+use Rattle.statement_laws.specs.Final.{Finally, IsTypedStatement, IsTypedSection}
 use Rattle.statement_laws.proofs.Scoping.{scoped-keeps}
 use Rattle.statement_laws.proofs.Nodes.{OtherwiseFits, if-selection, switch-selection, section-made}
 use Rattle.body_laws.specs.Statements.{label_spelled, StatementIn, SelectionIn, SectionsIn, LabelsAre, KeepsStatement, KeepsSection}
@@ -123,12 +123,12 @@ module _ (body : Body) where
   -- ---- sections
 
   abbrev StatementsIn : Environment → List TypedStatement → Type 0
-  StatementsIn env ss = Finally (λ within ss. P.Each (IsUncountedStatement within) ss) body env ss
+  StatementsIn env ss = Finally (λ within ss. P.Each (IsTypedStatement within) ss) body env ss
 
   statement-after-keeps : (around : Around) (walk : StatementWalk) → KeepsStatement body walk → KeepsOver StatementsIn (statement_after around walk)
   statement-after-keeps around walk h = λ before env well r.
       grown-after (StatementIn body) StatementsIn env (walk around env) (λ s env. Passes (before ++ s ∷ []) env) (h around env well)
-      (λ s new g w p. (extends-refl new, w, (λ within f. each-more (IsUncountedStatement within) before s (r within (final-before body env new g within f)) (p within f))))
+      (λ s new g w p. (extends-refl new, w, (λ within f. each-more (IsTypedStatement within) before s (r within (final-before body env new g within f)) (p within f))))
 
   each-statement : (around : Around) (walks : List StatementWalk) → Each (KeepsStatement body) walks → Each (KeepsOver StatementsIn) (map (statement_after around) walks)
   each-statement around [] h = tt
@@ -165,7 +165,7 @@ module _ (body : Body) where
         extends-refl last,
         u,
         (
-          (λ within f. each-more (IsUncountedSection within) sections.sections _
+          (λ within f. each-more (IsTypedSection within) sections.sections _
               (r.0 within (final-before body env one g within (final-before body one last j within f))) (section-made within labelled.labels ss (p within f))),
           refl,
           subst (λ (all : List TypedLabel). LabelsAre t all (next_section labelled)) (sym (labels-more sections.sections labelled.labels ss)) (next-are t (done ++ labelled.labels) labelled l),

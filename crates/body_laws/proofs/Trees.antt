@@ -1,4 +1,4 @@
--- Statements and blocks by induction over their trees: where they are walked, they keep the rules of typed programs but that of counters.
+-- Statements and blocks by induction over their trees: where they are walked, they keep the rules of typed programs.
 use Rattle.std.proofs.Common.{◌≡◌, ◌&&◌, Bool, true, false, Option, None, Some, List, [], ◌∷◌, map, sym, subst, ◌∙◌, refl}
 use Rattle.c_tree.specs.declared.expressions.Expr.{Expr}
 use Rattle.c_tree.specs.declared.statements.ExpressionStatement.{ExpressionStatement}
@@ -219,7 +219,7 @@ module _ (body : Body) (few : FewWhere body.bound) where
       subst (KeepsSection body) (sym (T.fold-roll-LabelledSection ItemWalk IterationWalk SelectionWalk StatementWalk BlockWalk SectionWalk (item_rule body) (iteration_rule body) (selection_rule body) (statement_rule body) (block_rule body) (section_rule body) (bare-LabelledSection y)))
       (section-of y (sym (T.fold-roll-LabelledSection Bool Bool Bool Bool Bool Bool item_spelled iteration_spelled selection_spelled statement_spelled block_spelled section_spelled (bare-LabelledSection y)) ∙ h))
 
-  -- where the walk of a spelled block passes in a well-formed environment, its tree keeps the rules of typed programs but that of counters,
+  -- where the walk of a spelled block passes in a well-formed environment, its tree keeps the rules of typed programs,
   -- in each scope that a program may end with
   pub block-typed : (x : Block) → is_spelled_block x ≡ true → KeepsBlock body (types_block body x)
   block-typed = T.ind-Block PI PL PC PS PB PD

@@ -23,7 +23,7 @@ use Rattle.c_meaning.specs.declared.statements.TypedIteration.{TypedIteration}
 use Rattle.c_meaning.specs.declared.statements.TypedBlock.{TypedBlock}
 use Rattle.c_meaning.specs.declared.statements.TypedLabel.{TypedLabel}
 use Rattle.c_meaning.specs.declared.statements.TypedLabel.TheVariants as label
-use Rattle.c_meaning.specs.StatementRules.{LabelsFit, labels_of, most_bound}
+use Rattle.c_meaning.specs.StatementRules.{LabelsFit, labels_of, most_bound, IsTypedBlock}
 use Rattle.c_typing.specs.declared.environment.Environment.{Environment}
 use Rattle.c_heads.specs.declared.context.Body.{Body}
 use Rattle.c_heads.specs.Labels.{Labelled}
@@ -36,7 +36,7 @@ use Rattle.expression_laws.specs.Keeping.{Keeps, KeepsOver}
 use Rattle.source_laws.specs.Spelled.{every, where_some, is_spelled, is_spelled_tag}
 use Rattle.effect_laws.specs.Simple.{is_spelled_simple}
 use Rattle.object_laws.specs.Declaring.{is_spelled_declaration}
-use Rattle.statement_laws.specs.Uncounted.{Finally, IsUncountedStatement, IsUncountedSelection, IsUncountedIteration, IsUncountedBlock, IsUncountedItem, IsUncountedSection}
+use Rattle.statement_laws.specs.Final.{Finally, IsTypedStatement, IsTypedSelection, IsTypedIteration, IsTypedItem, IsTypedSection}
 
 -- ---- as a text spells them
 
@@ -113,19 +113,19 @@ is_spelled_section = fold-LabelledSection Bool Bool Bool Bool Bool Bool item_spe
 -- ---- what is found
 
 abbrev pub StatementIn : Body → Environment → TypedStatement → Type 0
-StatementIn body env s = Finally IsUncountedStatement body env s
+StatementIn body env s = Finally IsTypedStatement body env s
 
 abbrev pub SelectionIn : Body → Environment → TypedSelection → Type 0
-SelectionIn body env s = Finally IsUncountedSelection body env s
+SelectionIn body env s = Finally IsTypedSelection body env s
 
 abbrev pub IterationIn : Body → Environment → TypedIteration → Type 0
-IterationIn body env s = Finally IsUncountedIteration body env s
+IterationIn body env s = Finally IsTypedIteration body env s
 
 abbrev pub BlockIn : Body → Environment → TypedBlock → Type 0
-BlockIn body env b = Finally IsUncountedBlock body env b
+BlockIn body env b = Finally IsTypedBlock body env b
 
 abbrev pub ItemsIn : Body → Environment → ItemList → Type 0
-ItemsIn body env items = Finally (λ within all. Each (IsUncountedItem within) all.items) body env items
+ItemsIn body env items = Finally (λ within all. Each (IsTypedItem within) all.items) body env items
 
 -- the labels so far, where `l` has their words
 pub record LabelsAre (t : Scalar) (all : List TypedLabel) (l : Labelled) : Type 0 where
@@ -135,7 +135,7 @@ pub record LabelsAre (t : Scalar) (all : List TypedLabel) (l : Labelled) : Type 
 
 abbrev pub SectionsIn : Body → Scalar → Environment → Sections → Type 0
 SectionsIn body t env s =
-    Finally (λ within all. Each (IsUncountedSection within) all.sections) body env s × (s.labelled.labels ≡ []) × LabelsAre t (labels_of s.sections) s.labelled
+    Finally (λ within all. Each (IsTypedSection within) all.sections) body env s × (s.labelled.labels ≡ []) × LabelsAre t (labels_of s.sections) s.labelled
 
 -- ---- walks
 

@@ -39,6 +39,8 @@ use Rattle.object_laws.specs.Declaring.{is_spelled_init, is_spelled_declaration,
 use Rattle.object_laws.proofs.Declarations.{AnyIn, PlainlyIn, dimensioned-passing, free-passing, declarator-passing, specs-passing}
 use Rattle.body_laws.proofs.Bounds.{FewWhere}
 use Rattle.body_laws.proofs.Blocks.{alone-keeps}
+use Rattle.marking_laws.specs.Marks.{IsDeclared}
+use Rattle.marking_laws.proofs.Declared.{typedef-declares, tag-declares, objects-declare}
 use Rattle.program_laws.specs.Programs.{is_spelled_external}
 use Rattle.program_laws.proofs.Parameters.{few-passing}
 use Rattle.program_laws.proofs.Functions.{IsGood, GoodAfter, good-kept, function-passing}
@@ -130,14 +132,15 @@ objects-keep declaration h = λ env well.
 
 -- ---- external declarations
 
-good-after : {A : Type 0} (env : Environment) (c : Checked A) (ports : Ports) → IsGood env → Passing (Grown AnyIn env) c → Passing GoodAfter (after c (λ _ env. Passes ports env))
-good-after env (Breaks kind place) ports good h = tt
-good-after env (Passes a new) ports good h = good-kept env new h.0 h.1 good
+good-after : {A : Type 0} (env : Environment) (c : Checked A) (ports : Ports) → IsGood env → Passing (Grown AnyIn env) c → Passing (λ a new. IsDeclared new) c → Passing GoodAfter (after c (λ _ env. Passes ports env))
+good-after env (Breaks kind place) ports good h d = tt
+good-after env (Passes a new) ports good h d = (good-kept env new h.0 h.1 good, d)
 
-pub external-passing : (bound : Option ℕ) (x : ExternalDeclaration) (ports : Ports) (env : Environment) → FewWhere bound → is_spelled_external x ≡ true → IsGood env → Passing GoodAfter (item_walk bound x ports env)
-external-passing bound (external.Typedef place specs name dimensions) ports env few h good =
+pub external-passing : (bound : Option ℕ) (x : ExternalDeclaration) (ports : Ports) (env : Environment) → FewWhere bound → is_spelled_external x ≡ true → IsGood env → IsDeclared env → Passing GoodAfter (item_walk bound x ports env)
+external-passing bound (external.Typedef place specs name dimensions) ports env few h good declared =
     let b = both (are_spelled_specs specs) (every (map is_spelled_dimension dimensions)) h in
-    good-after env (typedef_walk specs name dimensions env) ports good (typedef-keeps specs name dimensions b.0 b.1 env good.well)
-external-passing bound (external.TagSpecifier tag) ports env few h good = good-after env (tag_alone tag env) ports good (alone-keeps tag h env good.well)
-external-passing bound (external.Declaration fixed declaration) ports env few h good = good-after env (objects_walk declaration env) ports good (objects-keep declaration h env good.well)
-external-passing bound (external.Function f) ports env few h good = function-passing bound f ports env few h good
+    good-after env (typedef_walk specs name dimensions env) ports good (typedef-keeps specs name dimensions b.0 b.1 env good.well) (typedef-declares specs name dimensions b.0 b.1 env declared)
+external-passing bound (external.TagSpecifier tag) ports env few h good declared = good-after env (tag_alone tag env) ports good (alone-keeps tag h env good.well) (tag-declares tag h env declared)
+external-passing bound (external.Declaration fixed declaration) ports env few h good declared =
+    good-after env (objects_walk declaration env) ports good (objects-keep declaration h env good.well) (objects-declare declaration h env declared)
+external-passing bound (external.Function f) ports env few h good declared = function-passing bound f ports env few h good declared

@@ -1,5 +1,5 @@
--- Functions (C11 6.9.1): where their typing passes, they keep the rules of typed programs but those of counters.
-use Rattle.std.proofs.Common.{◌≡◌, ◌⊎◌, inl, inr, ◌≤◌, ◌<◌, ◌&&◌, ◌++◌, ℕ, Bool, true, false, if◌then◌else◌, Option, None, Some, List, [], ◌∷◌, length, slice_get, ap, sym, subst, ◌∙◌, refl, arith, not, is_some, map, drop, Contains}
+-- Functions (C11 6.9.1): where their typing passes, they keep the rules of typed programs.
+use Rattle.std.proofs.Common.{◌≡◌, ◌⊎◌, inl, inr, ◌≤◌, ◌<◌, ◌&&◌, ◌++◌, ℕ, zero, suc, Bool, true, false, if◌then◌else◌, Option, None, Some, List, [], ◌∷◌, length, slice_get, ap, sym, subst, ◌∙◌, refl, arith, not, is_some, map, drop, Contains}
 use Rattle.std.proofs.lemmas.Grind.{common_steps}
 use Rattle.std.proofs.lemmas.List.Elements.{Contains-append_left, Contains-push, Contains-push_cases}
 use Rattle.hy_bits.specs.declared.scalar.Scalar.TheVariants.{S32}
@@ -8,6 +8,8 @@ use Rattle.hy_bits.specs.Words.{IsWord}
 use Rattle.c_tree.specs.Names.{is_name}
 use Rattle.c_tree.specs.declared.expressions.Identifier.{Identifier}
 use Rattle.c_tree.specs.declared.expressions.Specifiers.{Specifiers}
+use Rattle.c_tree.specs.declared.programs.Parameters.{Parameters}
+use Rattle.c_tree.specs.declared.programs.Parameters.TheVariants as parameters
 use Rattle.c_tree.specs.declared.programs.Function.{Function}
 use Rattle.c_meaning.specs.declared.types.CType.{CType, out-CType}
 use Rattle.c_meaning.specs.declared.types.CType.TheOpen.{CType-F}
@@ -18,7 +20,7 @@ use Rattle.c_meaning.specs.declared.types.StructType.{StructType}
 use Rattle.c_meaning.specs.declared.programs.TypedFunction.{TypedFunction}
 use Rattle.c_meaning.specs.declared.statements.TypedBlock.{TypedBlock}
 use Rattle.c_meaning.specs.Types.{kind_of}
-use Rattle.c_meaning.specs.StatementRules.{Jumps, jumps_of, no_jumps, AreNames, is_result, layer_is_result}
+use Rattle.c_meaning.specs.StatementRules.{Jumps, jumps_of, no_jumps, AreNames, IsFunction, FunctionsFit, is_result, layer_is_result}
 use Rattle.c_meaning.specs.Uses.{taken_by}
 use Rattle.c_conversions.specs.declared.fault.TypeKind.TheVariants.{Mismatch, NoEntry, Twice}
 use Rattle.c_scopes.specs.Scopes.{Bound, found, before}
@@ -53,7 +55,11 @@ use Rattle.body_laws.proofs.Bounds.{FewWhere}
 use Rattle.body_laws.proofs.Trees.{block-typed}
 use Rattle.body_laws.proofs.Jumps.{block-jumps-are}
 use Rattle.body_laws.specs.Jumping.{JumpsAre}
-use Rattle.program_laws.specs.Programs.{are_spelled_parameters, is_spelled_function, IsUncountedFunction, UncountedFunctions, FunctionsIn}
+use Rattle.statement_laws.specs.Final.{Unaddressed}
+use Rattle.marking_laws.specs.Marks.{IsDeclared, Marked}
+use Rattle.marking_laws.proofs.Functions.{spelled_parameters, whole-marked}
+use Rattle.marking_laws.proofs.Declared.{result-declares, begun-declares}
+use Rattle.program_laws.specs.Programs.{are_spelled_parameters, is_spelled_function, FunctionsIn}
 use Rattle.program_laws.proofs.Parameters.{HeadIn, parameters-kept, head-keeps}
 
 both : (a b : Bool) → (a && b) ≡ true → (a ≡ true) × (b ≡ true)
@@ -76,11 +82,15 @@ pub record IsGood (env : Environment) : Type 0 where
   pub outer : env.names.opened ≡ []
 
 abbrev pub GoodAfter : {A : Type 0} → A → Environment → Type 0
-GoodAfter a env = IsGood env
+GoodAfter a env = IsGood env × IsDeclared env
+
+pub both-passing : {A : Type 0} (P Q : A → Environment → Type 0) (c : Checked A) → Passing P c → Passing Q c → Passing (λ a env. P a env × Q a env) c
+both-passing P Q (Breaks kind place) h k = tt
+both-passing P Q (Passes a env) h k = (h, k)
 
 functions-kept : (old new : Environment) → Extends old new → FunctionsIn old → FunctionsIn new
 functions-kept old new g h = λ structs objects gs go.
-    subst (λ (fs : List TypedFunction). UncountedFunctions structs objects [] fs) (sym g.functions)
+    subst (λ (fs : List TypedFunction). FunctionsFit structs objects [] fs) (sym g.functions)
     (h structs objects (grows-trans old.structs new.structs structs g.structs gs) (grows-trans old.objects new.objects objects g.objects go))
 
 map-append : {A B : Type 0} (f : A → B) (xs ys : List A) → map f (xs ++ ys) ≡ map f xs ++ map f ys
@@ -109,14 +119,14 @@ append-none : {A : Type 0} (xs : List A) → xs ++ [] ≡ xs
 append-none [] = refl
 append-none (x ∷ xs) = ap (λ us. x ∷ us) (append-none xs)
 
-functions-pushed : (structs : List StructType) (objects : List Object) (before fs : List TypedFunction) (f : TypedFunction) → UncountedFunctions structs objects before fs
-    → IsUncountedFunction (record { structs = structs; objects = objects; functions = before ++ fs }) f → UncountedFunctions structs objects before (fs ++ f ∷ [])
+functions-pushed : (structs : List StructType) (objects : List Object) (before fs : List TypedFunction) (f : TypedFunction) → FunctionsFit structs objects before fs
+    → IsFunction (record { structs = structs; objects = objects; functions = before ++ fs }) f → FunctionsFit structs objects before (fs ++ f ∷ [])
 functions-pushed structs objects before [] f h is =
-    (subst (λ (gs : List TypedFunction). IsUncountedFunction (record { structs = structs; objects = objects; functions = gs }) f) (append-none before) is, tt)
+    (subst (λ (gs : List TypedFunction). IsFunction (record { structs = structs; objects = objects; functions = gs }) f) (append-none before) is, tt)
 functions-pushed structs objects before (x ∷ fs) f h is = (
   h.0,
   functions-pushed structs objects (before ++ x ∷ []) fs f h.1
-      (subst (λ (gs : List TypedFunction). IsUncountedFunction (record { structs = structs; objects = objects; functions = gs }) f) (sym (append-one before x fs)) is),
+      (subst (λ (gs : List TypedFunction). IsFunction (record { structs = structs; objects = objects; functions = gs }) f) (sym (append-one before x fs)) is),
 )
 
 -- ---- results
@@ -242,7 +252,8 @@ whole-keeps f body few p h = λ env well.
 
 module _ (name : Identifier) (result : CType) (old : Environment) (good : IsGood old) (is : ResultIn old result) (body : Body) (same : body.result ≡ result)
     (is-named : is_name name.text ≡ true) (fresh : Contains (function_names old.functions) name.text → ⊥) (here : Contains (names_bound old.names.bound) name.text)
-    (whole : Whole) (new : Environment) (g : Extends old new) (well : IsWellFormed new) (r : WholeIn body new whole) where
+    (whole : Whole) (new : Environment) (g : Extends old new) (well : IsWellFormed new) (r : WholeIn body new whole)
+    (quiet : (structs : List StructType) (objects : List Object) → Grows new.objects objects → Unaddressed body new (record { scope = record { structs = structs; objects = objects; functions = new.functions }; result = result; taken = taken_by whole.body })) where
   abbrev f : TypedFunction
   f = record { name = name.text; place = name.place; result = result; params = whole.head.parameters; body = whole.body }
 
@@ -250,12 +261,12 @@ module _ (name : Identifier) (result : CType) (old : Environment) (good : IsGood
   function-by k x (inl before) = well.functions k x before
   function-by k x (inr equal) = subst (λ (y : TypedFunction). is_result (length new.structs) y.result ≡ true) equal (result-kept old new g good.well result is)
 
-  function-is : (structs : List StructType) (objects : List Object) → Grows new.structs structs → Grows new.objects objects → IsUncountedFunction (record { structs = structs; objects = objects; functions = new.functions }) f
+  function-is : (structs : List StructType) (objects : List Object) → Grows new.structs structs → Grows new.objects objects → IsFunction (record { structs = structs; objects = objects; functions = new.functions }) f
   function-is structs objects gs go = record {
     result = result-more-layer (length new.structs) (length structs) (out-CType result) (no-shorter new.structs structs gs) (result-kept old new g good.well result is);
     params = parameters-kept new.objects objects go whole.head.parameters r.0;
     body = r.1 (record { scope = record { structs = structs; objects = objects; functions = new.functions }; result = result; taken = taken_by whole.body })
-        (record { structs = gs; objects = go; functions = grows-refl new.functions }, sym same);
+        (record { structs = gs; objects = go; functions = grows-refl new.functions }, sym same, quiet structs objects go);
     jumps = none-leave (jumps_of whole.body) r.2;
   }
 
@@ -291,26 +302,46 @@ module _ (name : Identifier) (result : CType) (old : Environment) (good : IsGood
     outer = kept.outer;
   }
 
-rest-passing : (bound : Option ℕ) (f : Function) (result : CType) (ports : Ports) (env : Environment) → FewWhere bound → are_spelled_parameters f.parameters ≡ true → is_spelled_block f.body ≡ true → is_name f.name.text ≡ true
-    → IsGood env → ResultIn env result → (Contains (function_names env.functions) f.name.text → ⊥) → Contains (names_bound env.names.bound) f.name.text
-    → Passing GoodAfter (function_rest bound f result ports env)
-rest-passing bound f result ports env few p h named good is fresh here =
-    let body = body_of bound f result env in
-    passing-after (Grown (WholeIn body) env) GoodAfter (scoped_whole f body env) (λ whole env. Passes (ports_where (is_entry f.name) whole.head.ports ports) (with_function f.name result whole env))
-    (scoped-keeps (WholeIn body) (whole_walk f body) (λ env a r. r) (whole-keeps f body few p h) env good.well)
-    (λ whole new r. function-good f.name result env good is body refl named fresh here whole new r.0 r.1 r.2)
+-- an object that stands is the same where more are declared
+grown-back : {A : Type 0} (xs ys : List A) (k : ℕ) (x : A) → k < length xs → slice_get (xs ++ ys) k ≡ Some x → slice_get xs k ≡ Some x
+grown-back [] ys k x lt h = absurd (omega (arith, lt))
+grown-back (z ∷ xs) ys zero x lt h = h
+grown-back (z ∷ xs) ys (suc k) x lt h = grown-back xs ys k x (omega (arith, lt)) h
 
-pub function-passing : (bound : Option ℕ) (f : Function) (ports : Ports) (env : Environment) → FewWhere bound → is_spelled_function f ≡ true → IsGood env → Passing GoodAfter (function_walk bound f ports env)
-function-passing bound f ports env few h good =
+quiet-in : (bound : Option ℕ) (f : Function) (result : CType) (env : Environment) (whole : Whole) (new : Environment) → Marked f (length env.entities) whole new → (structs : List StructType) (objects : List Object) → Grows new.objects objects
+    → Unaddressed (body_of bound f result env) new (record { scope = record { structs = structs; objects = objects; functions = new.functions }; result = result; taken = taken_by whole.body })
+quiet-in bound f result env whole new marked structs objects go = λ n k le is unmarked.
+    let m = marked n k le is unmarked in
+    (m.0, λ object h. m.2 object (grown-back new.objects go.0 k object m.1 (subst (λ (os : List Object). slice_get os k ≡ Some object) go.1 h)))
+
+parameters-told : (ps : Parameters) → are_spelled_parameters ps ≡ true → spelled_parameters ps ≡ true
+parameters-told parameters.Nothing h = refl
+parameters-told (parameters.Void place) h = refl
+parameters-told (parameters.List list) h = h
+
+rest-passing : (bound : Option ℕ) (f : Function) (result : CType) (ports : Ports) (env : Environment) → FewWhere bound → are_spelled_parameters f.parameters ≡ true → is_spelled_block f.body ≡ true → is_name f.name.text ≡ true
+    → IsGood env → IsDeclared env → ResultIn env result → (Contains (function_names env.functions) f.name.text → ⊥) → Contains (names_bound env.names.bound) f.name.text
+    → Passing GoodAfter (function_rest bound f result ports env)
+rest-passing bound f result ports env few p h named good declared is fresh here =
+    let body = body_of bound f result env in
+    let P = λ (whole : Whole) (new : Environment). IsDeclared new × Marked f (length env.entities) whole new in
+    passing-after (λ whole new. Grown (WholeIn body) env whole new × P whole new) GoodAfter (scoped_whole f body env) (λ whole env. Passes (ports_where (is_entry f.name) whole.head.ports ports) (with_function f.name result whole env))
+    (both-passing (Grown (WholeIn body) env) P (scoped_whole f body env) (scoped-keeps (WholeIn body) (whole_walk f body) (λ env a r. r) (whole-keeps f body few p h) env good.well)
+    (whole-marked f body env (parameters-told f.parameters p) h declared))
+    (λ whole new r. (function-good f.name result env good is body refl named fresh here whole new r.0.0 r.0.1 r.0.2 (quiet-in bound f result env whole new r.1.1), r.1.0))
+
+pub function-passing : (bound : Option ℕ) (f : Function) (ports : Ports) (env : Environment) → FewWhere bound → is_spelled_function f ≡ true → IsGood env → IsDeclared env → Passing GoodAfter (function_walk bound f ports env)
+function-passing bound f ports env few h good declared =
     let n = both (is_name f.name.text && are_spelled_specs f.specs && are_spelled_parameters f.parameters) (is_spelled_block f.body) h in
     let a = both (is_name f.name.text && are_spelled_specs f.specs) (are_spelled_parameters f.parameters) n.0 in
     let b = both (is_name f.name.text) (are_spelled_specs f.specs) a.0 in
-    passing-after (Grown ResultIn env) GoodAfter (result_type f.specs env)
-    (λ result env. after (free_name f.name env) (λ _ env. after (entry_result f.name result env) (λ _ env. function_rest bound f result ports (begun f.name env)))) (result-keeps f.specs b.1 env good.well)
+    passing-after (λ result new. Grown ResultIn env result new × IsDeclared new) GoodAfter (result_type f.specs env)
+    (λ result env. after (free_name f.name env) (λ _ env. after (entry_result f.name result env) (λ _ env. function_rest bound f result ports (begun f.name env))))
+    (both-passing (Grown ResultIn env) (λ result new. IsDeclared new) (result_type f.specs env) (result-keeps f.specs b.1 env good.well) (result-declares f.specs b.1 env declared))
     (λ result one r.
-    let still = good-kept env one r.0 r.1 good in
+    let still = good-kept env one r.0.0 r.0.1 good in
     stays-after (FreeIn f.name.text) GoodAfter one (free_name f.name one) (λ _ env. after (entry_result f.name result env) (λ _ env. function_rest bound f result ports (begun f.name env)))
     (free-stays f.name one)
     (λ u free. stays-after AnyIn GoodAfter one (entry_result f.name result one) (λ _ env. function_rest bound f result ports (begun f.name env)) (entry-result-at f.name (kind_of result) one)
-    (λ v t. rest-passing bound f result ports (begun f.name one) few a.1 n.1 b.0 (good-kept one (begun f.name one) (begun-extends f.name one) (begun-well f.name one r.1) still) r.2
+    (λ v t. rest-passing bound f result ports (begun f.name one) few a.1 n.1 b.0 (good-kept one (begun f.name one) (begun-extends f.name one) (begun-well f.name one r.0.1) still) (begun-declares f.name one r.1) r.0.2
     (free-of one f.name.text still free) (begun-bound f.name one))))

@@ -1,5 +1,4 @@
--- Programs (C11 6.9): where the typing of a program passes, its parts keep the rules of typed programs but those of ports and of the counters of
--- loops.
+-- Programs (C11 6.9): where the typing of a program passes, its parts keep the rules of typed programs but those of ports.
 use Rattle.std.proofs.Common.{◌≡◌, ◌&&◌, ℕ, suc, nat_le, Bool, true, false, if◌then◌else◌, Option, None, Some, Result, Ok, Err, List, [], ◌∷◌, map, length, slice_get, subst, refl, arith}
 use Rattle.hy_bits.specs.declared.shape.Port.{Port}
 use Rattle.hy_bits.specs.declared.shape.Shape.{Shape}
@@ -24,6 +23,7 @@ use Rattle.typing_laws.proofs.Environments.{grows-refl}
 use Rattle.typing_laws.proofs.Postfix.{passing-after}
 use Rattle.source_laws.specs.Spelled.{every}
 use Rattle.body_laws.proofs.Bounds.{FewWhere}
+use Rattle.marking_laws.specs.Marks.{IsDeclared}
 use Rattle.program_laws.specs.Programs.{is_spelled_external, is_spelled_program, IsTypedBut}
 use Rattle.program_laws.proofs.Functions.{IsGood, GoodAfter}
 use Rattle.program_laws.proofs.Externals.{external-passing}
@@ -34,13 +34,13 @@ both false b h = absurd (cc)
 
 -- ---- external declarations one after another
 
-items-passing : (bound : Option ℕ) (items : List ExternalDeclaration) (ports : Ports) (env : Environment) → FewWhere bound → every (map is_spelled_external items) ≡ true → IsGood env
+items-passing : (bound : Option ℕ) (items : List ExternalDeclaration) (ports : Ports) (env : Environment) → FewWhere bound → every (map is_spelled_external items) ≡ true → IsGood env → IsDeclared env
     → Passing GoodAfter (along (map (item_walk bound) items) ports env)
-items-passing bound [] ports env few h good = good
-items-passing bound (x ∷ items) ports env few h good =
+items-passing bound [] ports env few h good declared = (good, declared)
+items-passing bound (x ∷ items) ports env few h good declared =
     let b = both (is_spelled_external x) (every (map is_spelled_external items)) h in
-    passing-after GoodAfter GoodAfter (item_walk bound x ports env) (λ ports env. along (map (item_walk bound) items) ports env) (external-passing bound x ports env few b.0 good)
-    (λ ports new g. items-passing bound items ports new few b.1 g)
+    passing-after GoodAfter GoodAfter (item_walk bound x ports env) (λ ports env. along (map (item_walk bound) items) ports env) (external-passing bound x ports env few b.0 good declared)
+    (λ ports new g. items-passing bound items ports new few b.1 g.0 g.1)
 
 nothing-good : IsGood nothing_declared
 nothing-good = record {
@@ -59,6 +59,13 @@ nothing-good = record {
   named = tt;
   bound = λ name c. absurd (omega (arith, c.1));
   outer = refl;
+}
+
+nothing-is-declared : IsDeclared nothing_declared
+nothing-is-declared = record {
+  numbers = tt;
+  within = λ i k e. absurd (cc);
+  apart = λ i j k e f. absurd (cc);
 }
 
 -- ---- objects
@@ -119,10 +126,10 @@ module _ (env : Environment) (good : IsGood env) where
 
 finished-by : (end : Place) (c : Checked Ports) (parts : TypedParts) → Passing GoodAfter c → finished end c ≡ Ok parts → IsTypedBut parts
 finished-by end (Breaks kind place) parts good h = absurd (cc)
-finished-by end (Passes ports env) parts good h = entry-by env good end env.main_function ports parts h
+finished-by end (Passes ports env) parts good h = entry-by env good.0 end env.main_function ports parts h
 
 -- where a program that is spelled is typed, with a few turns for loops that have no bound of their own, its parts keep the rules of typed programs but
--- those of ports and of counters
+-- those of ports
 pub program-typed : (program : ProgramTree) (bound : Option ℕ) (parts : TypedParts) → is_spelled_program program ≡ true → FewWhere bound → typing_of program bound ≡ Ok parts → IsTypedBut parts
 program-typed program bound parts h few typed =
-    finished-by program.end (along (map (item_walk bound) program.items) None nothing_declared) parts (items-passing bound program.items None nothing_declared few h nothing-good) typed
+    finished-by program.end (along (map (item_walk bound) program.items) None nothing_declared) parts (items-passing bound program.items None nothing_declared few h nothing-good nothing-is-declared) typed

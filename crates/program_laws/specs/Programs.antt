@@ -1,4 +1,4 @@
--- Functions and programs as a text spells them, and the rules of typed programs but those of ports and of the counters of loops.
+-- Functions and programs as a text spells them, and the rules of typed programs but those of ports.
 use Rattle.std.specs.Prelude.{◌≡◌, ◌≤◌, ◌&&◌, ◌++◌, Bool, true, Some, List, [], ◌∷◌, map, length, slice_get}
 use Rattle.c_tree.specs.Names.{is_name}
 use Rattle.c_tree.specs.declared.programs.Parameter.{Parameter}
@@ -13,15 +13,12 @@ use Rattle.c_meaning.specs.declared.types.StructType.{StructType}
 use Rattle.c_meaning.specs.declared.programs.TypedFunction.{TypedFunction}
 use Rattle.c_meaning.specs.declared.typed.TypedParts.{TypedParts}
 use Rattle.c_meaning.specs.Types.{struct_cells, shape_of, struct_shapes}
-use Rattle.c_meaning.specs.TypeRules.{Scope}
 use Rattle.c_meaning.specs.SizeFolds.{program_size, saturated}
-use Rattle.c_meaning.specs.StatementRules.{jumps_of, no_jumps, AreNames, StructsFit, ObjectsFit, AreParameters, is_result, cells_in, most_cells}
-use Rattle.c_meaning.specs.Uses.{taken_by}
+use Rattle.c_meaning.specs.StatementRules.{AreNames, StructsFit, ObjectsFit, FunctionsFit, cells_in, most_cells}
 use Rattle.c_typing.specs.declared.environment.Environment.{Environment}
 use Rattle.typing_laws.specs.Scopes.{Grows}
 use Rattle.source_laws.specs.Spelled.{every, is_spelled_tag, is_spelled_dimension, are_spelled_specs}
 use Rattle.object_laws.specs.Declaring.{is_spelled_declaration}
-use Rattle.statement_laws.specs.Uncounted.{IsUncountedBlock}
 use Rattle.body_laws.specs.Statements.{is_spelled_block}
 
 -- ---- as a text spells them
@@ -46,29 +43,18 @@ is_spelled_external (external.Function f) = is_spelled_function f
 abbrev pub is_spelled_program : ProgramTree → Bool
 is_spelled_program program = every (map is_spelled_external program.items)
 
--- ---- functions, by those that stand before
-
-pub record IsUncountedFunction (scope : Scope) (f : TypedFunction) : Type 0 where
-  pub result : is_result (length scope.structs) f.result ≡ true
-  pub params : AreParameters scope.objects f.params
-  pub body : IsUncountedBlock (record { scope = scope; result = f.result; taken = taken_by f.body }) f.body
-  pub jumps : jumps_of f.body ≡ no_jumps
-
-abbrev pub UncountedFunctions : List StructType → List Object → List TypedFunction → List TypedFunction → Type 0
-UncountedFunctions structs objects before [] = Unit {0}
-UncountedFunctions structs objects before (f ∷ fs) =
-    IsUncountedFunction (record { structs = structs; objects = objects; functions = before }) f × UncountedFunctions structs objects (before ++ f ∷ []) fs
+-- ---- functions
 
 -- in each program that has no less declared
 abbrev pub FunctionsIn : Environment → Type 0
-FunctionsIn env = (structs : List StructType) (objects : List Object) → Grows env.structs structs → Grows env.objects objects → UncountedFunctions structs objects [] env.functions
+FunctionsIn env = (structs : List StructType) (objects : List Object) → Grows env.structs structs → Grows env.objects objects → FunctionsFit structs objects [] env.functions
 
 -- ---- programs
 
 pub record IsTypedBut (program : TypedParts) : Type 0 where
   pub structs : StructsFit (struct_cells program.structs) 0 program.structs
   pub objects : ObjectsFit program.structs program.objects
-  pub functions : UncountedFunctions program.structs program.objects [] program.functions
+  pub functions : FunctionsFit program.structs program.objects [] program.functions
   pub main : (f : TypedFunction) × (slice_get program.functions program.main_function ≡ Some f) × (shape_of (struct_shapes program.structs) f.result ≡ Some program.result)
   pub regions : AreNames (map (λ f. f.name) program.functions)
   pub cells : program.cells ≡ cells_in program.objects

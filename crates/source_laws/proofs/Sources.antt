@@ -216,8 +216,9 @@ expr-of (Expr-F.Literal place value) h = literal-keeps place value (literal-told
 expr-of (Expr-F.Call name bracket arguments) h = call-keeps name bracket (map types_expr (map (λ v. v.0) arguments)) (args arguments h)
 expr-of (Expr-F.Parenthesized place inner) h = inner.1 h
 expr-of (Expr-F.Postfix first suffixes) h =
-    let b = both (is_spelled first.0) (every (map is_spelled_suffix (map (λ v. v.0) suffixes))) h in
-    postfix-keeps (types_expr first.0) (map types_suffix (map (λ v. v.0) suffixes)) (first.1 b.0) (each-kept Suffix SuffixWalk is_spelled_suffix types_suffix KeepsSuffix suffixes b.1)
+    let b = both (is_spelled first.0 && has_some (map is_spelled_suffix (map (λ v. v.0) suffixes))) (every (map is_spelled_suffix (map (λ v. v.0) suffixes))) h in
+    let c = both (is_spelled first.0) (has_some (map is_spelled_suffix (map (λ v. v.0) suffixes))) b.0 in
+    postfix-keeps (types_expr first.0) (map types_suffix (map (λ v. v.0) suffixes)) (first.1 c.0) (each-kept Suffix SuffixWalk is_spelled_suffix types_suffix KeepsSuffix suffixes b.1)
 expr-of (Expr-F.Unary place op operand) h = unary-keeps place (types_expr operand.0) (operand.1 h) op
 expr-of (Expr-F.Cast place specs operand) h =
     let b = both (are_spelled_specs specs.0) (is_spelled operand.0) h in

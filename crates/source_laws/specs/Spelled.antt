@@ -1,5 +1,5 @@
 -- Source trees as a text spells them: words of literals fit their types (C11 6.4.4.1p5), members have names (C11 6.4.2.1), and bodies of
--- structs and the declarations in them have an entry at least (C11 6.7.2.1).
+-- structs, the declarations in them and the suffixes after a primary expression have an entry at least (C11 6.7.2.1, 6.5.2).
 use Rattle.std.specs.Prelude.{Bool, true, ◌&&◌, nat_lt, Option, None, Some, List, [], ◌∷◌}
 use Rattle.hy_bits.specs.Scalar.{scalar_width}
 use Rattle.hy_bits.specs.Words.{modulus}
@@ -39,7 +39,7 @@ expr_spelled (Expr-F.Name name) = true
 expr_spelled (Expr-F.Literal place value) = literal_fits value
 expr_spelled (Expr-F.Call name bracket arguments) = every arguments
 expr_spelled (Expr-F.Parenthesized place inner) = inner
-expr_spelled (Expr-F.Postfix first suffixes) = first && every suffixes
+expr_spelled (Expr-F.Postfix first suffixes) = first && has_some suffixes && every suffixes
 expr_spelled (Expr-F.Unary place op operand) = operand
 expr_spelled (Expr-F.Cast place specs operand) = specs && operand
 expr_spelled (Expr-F.BinaryChain first operands) = first && every operands

@@ -4,3 +4,7 @@ pub mod Scoping
 pub mod Lasting
 -- statements that are made of parts
 pub mod Nodes
+-- what the step of a loop changes
+pub mod Steps
+-- loops that count
+pub mod Counters

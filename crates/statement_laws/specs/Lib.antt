@@ -1,2 +1,2 @@
 -- the rules of statements in the scope of a whole program
-pub mod Uncounted
+pub mod Final
