@@ -12,7 +12,7 @@ ghost use Rattle.exec_steps.specs.Running.{Continues, FollowsValue, IsRunning};
 ghost use Rattle.c_exec.specs.Expressions.{AreTypedOperands, Completes, FollowsTruth, IsTypedOperand, ValueFits, left_of_all, scope_of, world_as};
 
 use crate::world::World;
-use c_meaning::{LogicalOperand, TypedExpr};
+use c_meaning::{Conversion, LogicalOperand, TypedExpr};
 use exec_steps::{Running, both, converted, negated, signed, tested, truth_value};
 use exec_values::WordValue;
 use word_graph::{GraphFault, Node};
@@ -42,6 +42,19 @@ pub fn evaluate(
         } => {
             let value = evaluate(world, operand.get(), guard, running)?;
             converted(world.alloc, *conversion, &value, running, world.region)
+        }
+        TypedExpr::Cast {
+            from,
+            to,
+            operand,
+            ..
+        } => {
+            let value = evaluate(world, operand.get(), guard, running)?;
+            let conversion = Conversion::Integer {
+                from: *from,
+                to: *to,
+            };
+            converted(world.alloc, conversion, &value, running, world.region)
         }
         TypedExpr::Unary {
             place,

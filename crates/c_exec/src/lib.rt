@@ -7,7 +7,7 @@
 //! the limit only where the graph is full (read of exec_state `specs/Seen.antt`, `specs/Follow.antt`, `specs/Leave.antt`; of exec_values
 //! `specs/Views.antt`; of exec_steps `specs/Running.antt`, `specs/Ways.antt`).
 //!
-//! - `evaluate`: the value of a conversion, of a unary operator on integers, of `!` and of `&&` (`src/expressions.rt`). Any other expression is
+//! - `evaluate`: the value of a conversion, of a cast, of a unary operator on integers, of `!` and of `&&` (`src/expressions.rt`). Any other expression is
 //!   answered with want of memory.
 //! - `execute_statement`: blocks of statements, and the empty statement (`src/statements.rt`). Any other statement is answered with want of memory.
 #![tactic(auto)]

@@ -5,6 +5,7 @@ use Rattle.word_nodes.proofs.NodeLaws.{Stands-later}
 use Rattle.c_meaning.specs.Expressions as expressions
 use Rattle.c_meaning.specs.ExpressionFolds.{evaluates, operand_evaluates}
 use Rattle.hy_bits.specs.declared.scalar.Scalar.TheVariants.{S32}
+use Rattle.c_meaning.specs.declared.operators.Conversion.TheVariants as conversion
 use Rattle.c_meaning.specs.Constants.{constant_of}
 use Rattle.c_meaning.specs.Rules.{ConversionFits, IsTypedExpr}
 use Rattle.c_meaning.specs.TypeRules.{ExprType, type_of}
@@ -258,3 +259,38 @@ evaluate-returns-in_ok-truth-in-LogicalAnd-clause-continues t c =
     IfOk-weaker c.truth_value.result _ _
     (λ r is. continues_on c.args.world.now.regions c.args.world.now.region c.args.running.now c.all_hold.new.running c.truth_value.new.running c.requires.region c.in_ok-truth-in-LogicalAnd.ensures.continues c.truth_value.ensures.grows)
     c.truth_value.ensures.stands
+
+pub evaluate-evaluate-requires-in-Cast : goal.evaluate-evaluate-requires-in-Cast
+evaluate-evaluate-requires-in-Cast t c = (
+  omega (arith, c.decreases, weight-at (TypedExpr-F.Cast c.in-Cast.place c.in-Cast.from c.in-Cast.to c.in-Cast.operand) c.args.expr.now (c.in-Cast.is ∙ sym (expr.rolls-Cast c.in-Cast.place c.in-Cast.from c.in-Cast.to c.in-Cast.operand)), ap expr_weight c.get-in-Cast.ensures),
+  (
+    subst (IsTypedExpr (scope_of c.args.world.now)) (sym c.get-in-Cast.ensures) (parts-at (scope_of c.args.world.now) (TypedExpr-F.Cast c.in-Cast.place c.in-Cast.from c.in-Cast.to c.in-Cast.operand) c.args.expr.now (c.in-Cast.is ∙ sym (expr.rolls-Cast c.in-Cast.place c.in-Cast.from c.in-Cast.to c.in-Cast.operand)) c.requires.typed),
+    (c.requires.running, (c.requires.guard, c.requires.region)),
+  ),
+)
+
+pub evaluate-converted-requires-in-Cast-clause-takes : goal.evaluate-converted-requires-in-Cast-clause-takes
+evaluate-converted-requires-in-Cast-clause-takes t c = word_of_type c.evaluate-in-Cast.new.running.graph c.in-Cast.from (type_of (scope_of c.args.world.now) c.get-in-Cast.result.now) c.in_ok-value-in-Cast.value (ap (type_of (scope_of c.args.world.now)) c.get-in-Cast.ensures ∙ rule-at (scope_of c.args.world.now) (TypedExpr-F.Cast c.in-Cast.place c.in-Cast.from c.in-Cast.to c.in-Cast.operand) c.args.expr.now (c.in-Cast.is ∙ sym (expr.rolls-Cast c.in-Cast.place c.in-Cast.from c.in-Cast.to c.in-Cast.operand)) c.requires.typed) c.in_ok-value-in-Cast.ensures.fits
+
+pub evaluate-returns-in_ok-value-in-Cast-clause-fits :
+    goal.evaluate-returns-in_ok-value-in-Cast-clause-fits
+evaluate-returns-in_ok-value-in-Cast-clause-fits t c =
+    IfOk-weaker c.converted-in-Cast.result _ _
+    (λ r stands. subst (λ (type : ExprType). ValueFits c.converted-in-Cast.new.running.graph type r) (sym (type-at (scope_of c.args.world.now) (TypedExpr-F.Cast c.in-Cast.place c.in-Cast.from c.in-Cast.to c.in-Cast.operand) c.args.expr.now (c.in-Cast.is ∙ sym (expr.rolls-Cast c.in-Cast.place c.in-Cast.from c.in-Cast.to c.in-Cast.operand)))) (word_fits c.converted-in-Cast.new.running.graph c.in-Cast.to r stands))
+    c.converted-in-Cast.ensures.stands
+
+pub evaluate-returns-in_ok-value-in-Cast-clause-follows :
+    goal.evaluate-returns-in_ok-value-in-Cast-clause-follows
+evaluate-returns-in_ok-value-in-Cast-clause-follows t c =
+    let means = means-at (world_as c.args.world.now) (TypedExpr-F.Cast c.in-Cast.place c.in-Cast.from c.in-Cast.to c.in-Cast.operand) c.args.expr.now (c.in-Cast.is ∙ sym (expr.rolls-Cast c.in-Cast.place c.in-Cast.from c.in-Cast.to c.in-Cast.operand)) ∙ ap (λ (e : TypedExpr). expressions.converted_value (conversion.Integer c.in-Cast.from c.in-Cast.to) (evaluates (world_as c.args.world.now) e)) (sym c.get-in-Cast.ensures) in
+    IfOk-weaker c.converted-in-Cast.result _ _
+    (λ r turns. subst (λ (run : expressions.Eval). FollowsValue run c.args.running.now c.converted-in-Cast.new.running c.args.guard r) (sym means)
+    (value_turns c.args.world.now.regions c.args.running.now c.evaluate-in-Cast.new.running c.converted-in-Cast.new.running c.args.guard c.in_ok-value-in-Cast.ensures.continues (evaluates (world_as c.args.world.now) c.get-in-Cast.result.now) (expressions.converted_value (conversion.Integer c.in-Cast.from c.in-Cast.to)) c.in_ok-value-in-Cast.value r c.in_ok-value-in-Cast.ensures.follows turns))
+    c.converted-in-Cast.ensures.follows
+
+pub evaluate-returns-in_ok-value-in-Cast-clause-continues :
+    goal.evaluate-returns-in_ok-value-in-Cast-clause-continues
+evaluate-returns-in_ok-value-in-Cast-clause-continues t c =
+    IfOk-weaker c.converted-in-Cast.result _ _
+    (λ r is. continues_on c.args.world.now.regions c.args.world.now.region c.args.running.now c.evaluate-in-Cast.new.running c.converted-in-Cast.new.running c.requires.region c.in_ok-value-in-Cast.ensures.continues c.converted-in-Cast.ensures.grows)
+    c.converted-in-Cast.ensures.stands
