@@ -1,0 +1,4 @@
+mod OwnerLaws
+mod OwnLaws
+pub mod SafeLaws
+mod Drawing
