@@ -5,6 +5,7 @@ use Rattle.hy_bits.specs.declared.op.Op.{Op}
 use Rattle.hy_bits.specs.declared.op.Op.TheVariants.{In, And, Add}
 use Rattle.hy_bits.specs.declared.scalar.Scalar.{Scalar}
 use Rattle.hy_bits.specs.declared.scalar.Scalar.TheVariants.{B1, U32}
+use Rattle.hy_bits.specs.declared.shape.Port.{Port}
 use Rattle.hy_bits.specs.declared.shape.Shape.TheVariants as V
 use Rattle.hy_bits.specs.declared.shape.Shape.TheOpen.{Shape-F}
 use Rattle.hy_bits.specs.declared.shape.Shape.TheFolds.{fold-roll-Shape}
@@ -19,7 +20,7 @@ use Rattle.bundle_core.specs.Means.{ReachesResult}
 use Rattle.bundle_core.specs.Names.{good_field, good_step, is_good_shape}
 use Rattle.bundle_core.specs.Parts.{HasRegion, IsLeaf}
 use Rattle.assembly.specs.Outlines.{IsOutline}
-use Rattle.assembly_tests.specs.Outlines.{entries_of, outline_with, two_ports, two_results}
+use Rattle.assembly_tests.specs.Outlines.{entries_of, main_region, outline_with, two_ports, two_results}
 
 abbrev Each : {X : Type 0} → (X → Type 0) → List X → Type 0
 Each P [] = Unit {0}
@@ -76,3 +77,8 @@ sum-outline table = record {
   results_widths = rw (leaves-Scalar U32) refl;
   reached = reached Add W32;
 }
+
+-- the parts that are put together are those of an outline that is written down
+pub same-outline : (entries : List Entry) (scalar : Scalar) (table : Table) (ports : List Port) (regions : List (List ℕ)) (graph : List Entry) (results : List Node) → ports ≡ two_ports scalar → regions ≡ main_region ∷ [] → graph ≡ entries → results ≡ two_results →
+    IsOutline (outline_with entries scalar table) → IsOutline (record { ports = ports; result = V.Scalar scalar; regions = regions; graph = graph; results = results; table = table })
+same-outline entries scalar table ports regions graph results p q r s is = rw (p, q, r, s) is

@@ -11,7 +11,7 @@
 //!   frame_digests).
 //! - `PairRun::kept` is the number of the words that are kept.
 //!
-//! Not proved yet: that a step is a step of the protocol (`Stands` in `specs/Runs.antt` says what that means), so that a party is always ready where
+//! Not proved: that a step is a step of the protocol (`Stands` in `specs/Runs.antt` says what that means), so that a party is always ready where
 //! it can move. Each step tests at run time that it is.
 //!
 //! | lemmas | on |
